@@ -1,0 +1,14 @@
+pub mod Syntax
+pub mod Store
+pub mod Range
+pub mod Typing
+pub mod Steps
+pub mod Overflow
+pub mod Run
+pub mod Measures
+pub mod Sets
+pub mod Text
+pub mod Refused
+pub mod Judge
+pub mod Next
+pub mod RunOf

@@ -1,0 +1,5 @@
+pub mod Bytes
+pub mod Stored
+pub mod Layout
+pub mod Refusals
+pub mod Answers

@@ -1,0 +1,63 @@
+-- 01, "The stored routine": the bytes of a tree with m declared locations, by 01's table of kinds.
+use Prim.Native.Nat.{ℕ, _+_, _-_, _*_, _/_, _%_, _≤_}
+use mathlib.Core.Path.{_≡_}
+use mathlib.Core.Bool.{cond}
+use mathlib.Core.List.{List, [], _∷_, _++_}
+use lib.IntN.{ℤ}
+use Rattle.l1.specs.Syntax.{Op, plus, geq, Loc, Expr, int, bool, _‹_#_›_, if_then_else_, _:=_, !_, skip, _⨾_, while_do′_done}
+use Rattle.l1.specs.Range.{InRange}
+use Rattle.l1.specs.Measures.{size, depth}
+use Rattle.l1.specs.Refused.{Node}
+use Rattle.stored.specs.Bytes.{two, unsigned}
+
+-- "byte 0 kind, byte 1 a small argument, bytes 2-3, 4-5 and 6-7 the numbers of the first, second and third child"; what is not used is 0
+abbrev pub node : ℕ → ℕ → ℕ → ℕ → ℕ → List ℕ
+node kind arg first second third = kind ∷ arg ∷ two first ++ two second ++ two third
+
+abbrev pub opKind : Op → ℕ
+opKind plus = 2
+opKind geq = 3
+
+-- the number of the root of e, where the nodes of e are numbered from f on
+abbrev pub rootFrom : ℕ → Expr → ℕ
+rootFrom f e = f + size e - 1
+
+-- the nodes of e in post-order, numbered from f on
+unfoldable pub nodesFrom : ℕ → Expr → List ℕ
+nodesFrom f (int n) = node 0 0 0 (unsigned n / 65536) (unsigned n % 65536)
+nodesFrom f (bool b) = node 1 (cond b 1 0) 0 0 0
+nodesFrom f (e₁ ‹ o # i › e₂) =
+    nodesFrom f e₁
+    ++ nodesFrom (f + size e₁) e₂
+    ++ node (opKind o) 0 (rootFrom f e₁) (rootFrom (f + size e₁) e₂) 0
+nodesFrom f (if e₁ then e₂ else e₃) =
+    nodesFrom f e₁
+    ++ nodesFrom (f + size e₁) e₂
+    ++ nodesFrom (f + size e₁ + size e₂) e₃
+    ++ node 4 0 (rootFrom f e₁) (rootFrom (f + size e₁) e₂) (rootFrom (f + size e₁ + size e₂) e₃)
+nodesFrom f (l := e) = nodesFrom f e ++ node 5 l (rootFrom f e) 0 0
+nodesFrom f (! l) = node 6 l 0 0 0
+nodesFrom f skip = node 7 0 0 0 0
+nodesFrom f (e₁ ⨾ e₂) =
+    nodesFrom f e₁
+    ++ nodesFrom (f + size e₁) e₂
+    ++ node 8 0 (rootFrom f e₁) (rootFrom (f + size e₁) e₂) 0
+nodesFrom f (while e₁ do′ e₂ done) =
+    nodesFrom f e₁
+    ++ nodesFrom (f + size e₁) e₂
+    ++ node 9 0 (rootFrom f e₁) (rootFrom (f + size e₁) e₂) 0
+
+-- "Bytes 0-1: the number of bytes after them. Byte 2: version, 1. Byte 3: m. Bytes 4-5: n, the number of nodes. Then n nodes of 8 bytes."
+unfoldable pub stored : ℕ → Expr → List ℕ
+stored m e = two (4 + 8 * size e) ++ 1 ∷ m ∷ two (size e) ++ nodesFrom 0 e
+
+-- the trees that a routine can hold: within the limits of 01, integers of 32 bits, locations of one byte, and each operator numbered by its
+-- own node
+pub record Storable (m : ℕ) (e : Expr) : Type 0 where
+  pub few-locations : m ≤ 64
+  pub few-nodes : size e ≤ 4096
+  pub shallow : depth e ≤ 256
+  pub integers : (i : ℕ) (n : ℤ) → Node e i (int n) → InRange n
+  pub read-locations : (i : ℕ) (l : Loc) → Node e i (! l) → l ≤ 255
+  pub written-locations : (i : ℕ) (l : Loc) (d : Expr) → Node e i (l := d) → l ≤ 255
+  pub numbered : (i j : ℕ) (o : Op) (e₁ e₂ : Expr) → Node e i (e₁ ‹ o # j › e₂) → j ≡ i
