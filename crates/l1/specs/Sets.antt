@@ -1,31 +1,43 @@
 -- 01's read set and write set: the locations under a dereference and the locations assigned, over the whole routine, untaken branches
 -- included; and such a set as a word, "bit i for location i".
 use Prim.Native.Nat.{ℕ, _/_, _%_, _^_}
-use mathlib.Core.List.{List, [], _∷_, _++_}
+use mathlib.Core.List.{List, [], _∷_, _++_, List·Memᴰ}
 use lib.Bits.{bitOr}
 use Rattle.l1.specs.Syntax.{Loc, Expr, int, bool, _‹_#_›_, if_then_else_, _:=_, !_, skip, _⨾_, while_do′_done}
 
+pub data Use : Type 0 where
+  reading writing : Use
+
+-- what a dereference of l reads and writes, and what an assignment to l does
+abbrev pub by-deref : Use → Loc → List Loc
+by-deref reading l = l ∷ []
+by-deref writing l = []
+
+abbrev pub by-assign : Use → Loc → List Loc
+by-assign reading l = []
+by-assign writing l = l ∷ []
+
+abbrev pub uses : Use → Expr → List Loc
+uses u (int n) = []
+uses u (bool b) = []
+uses u (e₁ ‹ o # i › e₂) = uses u e₁ ++ uses u e₂
+uses u (if e₁ then e₂ else e₃) = uses u e₁ ++ uses u e₂ ++ uses u e₃
+uses u (l := e) = uses u e ++ by-assign u l
+uses u (! l) = by-deref u l
+uses u skip = []
+uses u (e₁ ⨾ e₂) = uses u e₁ ++ uses u e₂
+uses u (while e₁ do′ e₂ done) = uses u e₁ ++ uses u e₂
+
+-- the read set and the write set
 abbrev pub reads : Expr → List Loc
-reads (int n) = []
-reads (bool b) = []
-reads (e₁ ‹ o # i › e₂) = reads e₁ ++ reads e₂
-reads (if e₁ then e₂ else e₃) = reads e₁ ++ reads e₂ ++ reads e₃
-reads (l := e) = reads e
-reads (! l) = l ∷ []
-reads skip = []
-reads (e₁ ⨾ e₂) = reads e₁ ++ reads e₂
-reads (while e₁ do′ e₂ done) = reads e₁ ++ reads e₂
+reads e = uses reading e
 
 abbrev pub writes : Expr → List Loc
-writes (int n) = []
-writes (bool b) = []
-writes (e₁ ‹ o # i › e₂) = writes e₁ ++ writes e₂
-writes (if e₁ then e₂ else e₃) = writes e₁ ++ writes e₂ ++ writes e₃
-writes (l := e) = writes e ++ l ∷ []
-writes (! l) = []
-writes skip = []
-writes (e₁ ⨾ e₂) = writes e₁ ++ writes e₂
-writes (while e₁ do′ e₂ done) = writes e₁ ++ writes e₂
+writes e = uses writing e
+
+infix 20 _∈_
+abbrev pub _∈_ : Loc → List Loc → Type 0
+l ∈ ls = List·Memᴰ l ls
 
 -- the word that has the bits of these locations and no other
 unfoldable pub word : List Loc → ℕ

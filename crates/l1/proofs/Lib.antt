@@ -1,0 +1,16 @@
+pub mod Range
+pub mod Values
+pub mod Determinism
+pub mod OneAct
+pub mod Progress
+pub mod Membership
+pub mod Preservation
+pub mod Declared
+pub mod SetWords
+pub mod Decimal
+pub mod Runs
+pub mod Bound
+pub mod Outcomes
+pub mod Next
+pub mod RunOf
+pub mod NeverStuck
