@@ -1,3 +1,4 @@
+-- The laws of L1, from the leaves up.
 pub mod Range
 pub mod Values
 pub mod Determinism
@@ -14,3 +15,8 @@ pub mod Outcomes
 pub mod Next
 pub mod RunOf
 pub mod NeverStuck
+pub mod Nodes
+pub mod TypeUnique
+pub mod Faults
+pub mod Verdict
+pub mod Course

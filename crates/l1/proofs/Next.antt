@@ -1,7 +1,7 @@
 -- The computed next act is the one that the rules have: whatever is next by the rules is computed, and of a typed row what is computed is next.
 use Prim.Native.Nat.{ℕ}
 use mathlib.Core.Path.{_≡_, refl, sym, _∙_}
-use mathlib.Core.Option.{some}
+use mathlib.Core.Option.{some, Option·some-injective}
 use borrow.Author.Tests.{lt-ltb}
 use lib.IntN.{_+ℤ_}
 use Rattle.l1.specs.Syntax.{Expr, Value, v-int, v-bool, v-skip, Ty}
@@ -49,10 +49,7 @@ does-computed {s = s} (does-end v) = next-of-value s v
 does-computed {s = s} (does-overflow p) = next-of-overflow s p
 does-computed (does-step d) = next-of-step d
 
-some-same : {x y : Act} → some x ≡ some y → x ≡ y
-some-same h = cc
-
 pub computed-does : {Γ : TypeEnv} {e : Expr} {T : Ty} {s : Store} {x : Act} → Covers Γ s → Γ ⊢ e ∶ T → next e s ≡ some x → Does e s x
 computed-does {s = s} c a q =
     let p = some-act {s = s} c a in
-    rw (some-same (sym q ∙ does-computed (p .1))) (p .1)
+    rw (Option·some-injective _ _ (sym q ∙ does-computed (p .1))) (p .1)

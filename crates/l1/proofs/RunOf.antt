@@ -1,7 +1,7 @@
 -- The computed run is the run: whatever is yielded is computed, and of a typed row what is computed is yielded.
 use Prim.Native.Nat.{ℕ, zero, suc}
 use mathlib.Core.Path.{_≡_, refl, sym, _∙_}
-use mathlib.Core.Option.{some}
+use mathlib.Core.Option.{some, Option·some-injective}
 use Rattle.l1.specs.Syntax.{Expr, Ty}
 use Rattle.l1.specs.Store.{Store}
 use Rattle.l1.specs.Typing.{TypeEnv, _⊢_∶_}
@@ -29,11 +29,8 @@ yields-computed (ends-overflow {f = f} p) = at-overflow f (does-computed (does-o
 yields-computed (ends-fuel d) = rw (does-computed (does-step d))
 yields-computed (goes-on d y) = rw (does-computed (does-step d), yields-computed y)
 
-some-same : {x y : Answer} → some x ≡ some y → x ≡ y
-some-same h = cc
-
 pub computed-yields : {Γ : TypeEnv} {T : Ty} (f : ℕ) {e : Expr} {s : Store} {a : Answer}
     → Covers Γ s → Γ ⊢ e ∶ T → runOf f e s ≡ some a → Yields f e s a
 computed-yields f {s = s} c t q =
     let p = some-answer f {s = s} c t in
-    rw (some-same (sym q ∙ yields-computed (p .1))) (p .1)
+    rw (Option·some-injective _ _ (sym q ∙ yields-computed (p .1))) (p .1)

@@ -12,3 +12,4 @@ pub mod Refused
 pub mod Judge
 pub mod Next
 pub mod RunOf
+pub mod Course
