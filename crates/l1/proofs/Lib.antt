@@ -1,22 +1,22 @@
 -- The laws of L1, from the leaves up.
-pub mod Range
-pub mod Values
-pub mod Determinism
-pub mod OneAct
-pub mod Progress
-pub mod Membership
-pub mod Preservation
-pub mod Declared
-pub mod SetWords
-pub mod Decimal
-pub mod Runs
-pub mod Bound
-pub mod Outcomes
-pub mod Next
-pub mod RunOf
-pub mod NeverStuck
-pub mod Nodes
-pub mod TypeUnique
-pub mod Faults
-pub mod Verdict
-pub mod Course
+pub mod Range  -- in range or out of range, and not both
+pub mod Values  -- a value makes no step and no overflow
+pub mod Determinism  -- one step at most
+pub mod OneAct  -- one of value, overflow and step at most
+pub mod Progress  -- of a typed row, exactly one
+pub mod Membership  -- lists of locations as sets
+pub mod Preservation  -- what a step keeps
+pub mod Declared  -- a typed row uses declared locations alone
+pub mod SetWords  -- the words of the read set and the write set
+pub mod Decimal  -- the digits of a number
+pub mod Runs  -- steps in a row
+pub mod Bound  -- T ≤ W + K × (W + 2)
+pub mod Outcomes  -- exactly one answer of a run with fuel, and what it says
+pub mod Next  -- the computed next act is the next act
+pub mod RunOf  -- the computed run is the run
+pub mod NeverStuck  -- demand 3, of every moment
+pub mod Nodes  -- where the nodes of a tree stand
+pub mod TypeUnique  -- one type at most
+pub mod Faults  -- the computed fault of one node
+pub mod Verdict  -- a type, or one refusal at one node
+pub mod Course  -- the course rows marked P are right

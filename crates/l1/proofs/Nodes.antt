@@ -1,5 +1,5 @@
 -- Where the nodes of a tree stand in its list of nodes: the root, the children's, and those of any subtree, which stand in a row.
-use Prim.Native.Nat.{ℕ, _+_, _≤_, _<_}
+use Prim.Native.Nat.{ℕ, zero, suc, _+_, _≤_, _<_}
 use native.Mathlib.Nat.{zero-add, add-zero, suc-add, add-assoc}
 use native.Mathlib.Omega.{arith}
 use mathlib.Core.Path.{_≡_, refl, sym, ap, _∙_}
@@ -18,6 +18,11 @@ nth-unique (later n) (later m) = nth-unique n m
 pub nth-below : {ds : List Expr} {i : ℕ} {d : Expr} → Nth ds i d → i < length ds
 nth-below first = omega arith
 nth-below (later n) = let h = nth-below n in omega arith
+
+pub nth-some : (ds : List Expr) (i : ℕ) → i < length ds → (d : Expr) × Nth ds i d
+nth-some [] i h = absurd (omega arith)
+nth-some (d ∷ ds) zero h = (d, first)
+nth-some (d ∷ ds) (suc i) h = let w = nth-some ds i (omega arith) in (w .0, later (w .1))
 
 pub nth-left : {xs : List Expr} {i : ℕ} {d : Expr} (ys : List Expr) → Nth xs i d → Nth (xs ++ ys) i d
 nth-left ys first = first
@@ -134,6 +139,9 @@ child-root e {c} a = child-node e a (root-stands c)
 pub data Standing (e : Expr) : ℕ → Expr → Type 0 where
   at-root : {j : ℕ} → j + 1 ≡ size e → Standing e j e
   in-child : {f k : ℕ} {c d : Expr} → Among (children e) f c → Node c k d → Standing e (f + k) d
+
+pub size-positive : (e : Expr) → 0 < size e
+size-positive e = omega (arith, size-children e)
 
 pub node-standing : (e : Expr) {j : ℕ} {d : Expr} → Node e j d → Standing e j d
 node-standing e {d} n = row-cases (children e) (λ i. Standing e i d) (λ f k c a m. in-child a m) (λ k m. in-root m) (rw nodes-row at n)

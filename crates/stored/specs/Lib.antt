@@ -1,5 +1,7 @@
-pub mod Bytes
-pub mod Stored
-pub mod Layout
-pub mod Refusals
-pub mod Answers
+-- The stored routine as 01 defines it. In the order of reading:
+pub mod Bytes  -- numbers in bytes
+pub mod Stored  -- the bytes of a tree
+pub mod Layout  -- the tree that stands at a node of the bytes
+pub mod Reader  -- Layout, computed
+pub mod Refusals  -- the numbers of refusal, when each is given, and their order
+pub mod Answers  -- what the check, the run and the text answer

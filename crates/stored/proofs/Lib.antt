@@ -1,0 +1,12 @@
+-- The laws of the stored routine.
+pub mod Signed  -- two's complement, both ways
+pub mod Parts  -- the bytes of some nodes in a row
+pub mod Fits  -- what a routine can hold, part by part
+pub mod Subtrees  -- where a tree stands, its nodes stand
+pub mod Reader  -- one tree at a node at most
+pub mod Opens  -- what refusals 1 to 6 leave
+pub mod ReadBack  -- reading the stored form gives back the tree
+pub mod WrittenBack  -- accepted bytes are the stored form of their tree
+pub mod StoredBytes  -- the stored form is made of bytes
+pub mod OneAnswer  -- any two answers allowed are equal
+pub mod Example  -- the bytes of 01's worked example
