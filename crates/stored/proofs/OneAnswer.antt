@@ -1,4 +1,4 @@
--- One answer: any two refusals, and any two answers of the check, the run or the text, that the definitions allow are the same.
+-- One answer: any two refusals, and any two answers of opening, the check, the run or the text, that the definitions allow are the same.
 use Prim.Native.Nat.{ℕ, _≤_, _<_}
 use native.Mathlib.Omega.{arith}
 use mathlib.Core.Path.{_≡_, refl, ap, ap₂}
@@ -14,6 +14,7 @@ use Rattle.l1.proofs.Verdict.{refused-unique, refused-number}
 use Rattle.stored.specs.Refusals.{Refusal, no, no-with, number, Holds, Lowest}
 use Rattle.stored.specs.Refusals.{Given, given-1, given-2, given-3, given-4, given-5-none, given-5-over, given-6, given-7, given-8, given-9, given-type}
 use Rattle.stored.specs.Refusals.{GivenRun, by-routine, given-30, GivenText, by-run, given-32}
+use Rattle.stored.specs.Answers.{Opened, Opening, open-refuses, open-opens}
 use Rattle.stored.specs.Answers.{Checked, Checks, check-refuses, check-tells}
 use Rattle.stored.specs.Answers.{Ran, ran, Runs, run-refuses, run-yields, Wrote, wrote, Writes, text-refuses, text-wrote}
 use Rattle.stored.proofs.Reader.{holds-unique}
@@ -70,6 +71,12 @@ module _ (b : List ℕ) where
 
   pub lowest-unique : {r r′ : Refusal} → Lowest (Given b) r → Lowest (Given b) r′ → r ≡ r′
   lowest-unique {r} {r′} = lowest-is-one (same-given r r′)
+
+  pub opening-unique : {a a′ : Opened} → Opening b a → Opening b a′ → a ≡ a′
+  opening-unique (open-refuses n l) (open-refuses n′ l′) = ap Opened.refuses (lowest-unique l l′)
+  opening-unique (open-refuses n l) (open-opens none h) = absurd (none _ n (l .does))
+  opening-unique (open-opens none h) (open-refuses n l) = absurd (none _ n (l .does))
+  opening-unique (open-opens none h) (open-opens none′ h′) = refl
 
   given-number : (r : Refusal) → Given b r → number r ≤ 23
   given-number (no c) g = omega (arith, bare g)

@@ -1,4 +1,4 @@
--- Bytes to which no refusal of 1 to 9 is given, and what the refusals 1 to 6 leave of them.
+-- What the refusals 1 to 6 leave of bytes to which none of 1 to 9 is given.
 use Prim.Native.Nat.{ℕ, _+_, _*_, _≤_, _<_}
 use native.Mathlib.Omega.{arith}
 use native.Mathlib.Decide.{ℕ-discrete}
@@ -7,11 +7,8 @@ use mathlib.Core.Logic.{Dec·not-not}
 use mathlib.Core.List.{List}
 use lib.ListN.{length}
 use Rattle.stored.specs.Bytes.{byte, pair}
-use Rattle.stored.specs.Refusals.{Refusal, no, number, locations, count, Given, given-2, given-3, given-4, given-5-none, given-5-over, given-6}
-
--- no refusal of 1 to 9 is given
-abbrev pub Opens : List ℕ → Type 0
-Opens b = (r : Refusal) → number r < 10 → ¬ Given b r
+use Rattle.stored.specs.Answers.{Opens}
+use Rattle.stored.specs.Refusals.{no, locations, count, Given, given-2, given-3, given-4, given-5-none, given-5-over, given-6}
 
 -- what 1 to 6 leave
 pub record Headed (b : List ℕ) : Type 0 where

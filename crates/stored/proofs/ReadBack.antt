@@ -17,7 +17,7 @@ use Rattle.stored.specs.Layout.{start, NodeIs, TreeAt, at-int, at-bool, 
 use Rattle.stored.specs.Refusals.{Refusal, number, locations, count, Holds}
 use Rattle.stored.specs.Refusals.{Given, given-1, given-2, given-3, given-4, given-5-none, given-5-over, given-6, given-7, given-8, given-9, given-type}
 use Rattle.stored.proofs.Fits.{Fits, storable-fits, fits-left, fits-first, fits-second, fits-rest}
-use Rattle.stored.proofs.Opens.{Opens}
+use Rattle.stored.specs.Answers.{Opens}
 use Rattle.stored.proofs.Parts.{part, part-split, part-node}
 use Rattle.stored.proofs.Signed.{signed-unsigned}
 use Rattle.stored.proofs.Subtrees.{subtrees}

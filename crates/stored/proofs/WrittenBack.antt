@@ -13,7 +13,8 @@ use Rattle.stored.specs.Bytes.{byte}
 use Rattle.stored.specs.Stored.{node, rootFrom, nodesFrom, stored, Storable}
 use Rattle.stored.specs.Layout.{start, NodeIs, TreeAt, at-int, at-bool, at-op, at-if, at-assign, at-deref, at-skip, at-seq, at-while}
 use Rattle.stored.specs.Refusals.{no, locations, count, Holds, given-8, given-9}
-use Rattle.stored.proofs.Opens.{Opens, headed}
+use Rattle.stored.specs.Answers.{Opens}
+use Rattle.stored.proofs.Opens.{headed}
 use Rattle.stored.proofs.Parts.{part, part-join, bytes, take-bytes, halves, node-part}
 use Rattle.stored.proofs.Signed.{signed-in-range, unsigned-signed}
 use Rattle.stored.proofs.Subtrees.{size-fits, subtrees}

@@ -1,6 +1,6 @@
--- 01, "What an accepted routine tells": what the check, the run and the text answer to every list of bytes, and what they leave in the lent
--- store and buffer.
-use Prim.Native.Nat.{ℕ}
+-- 01, "What an accepted routine tells": what opening, the check, the run and the text answer to every list of bytes, and what they leave in
+-- the lent store and buffer.
+use Prim.Native.Nat.{ℕ, _<_}
 use mathlib.Core.List.{List, _++_}
 use lib.ListN.{length, drop}
 use Rattle.l1.specs.Syntax.{Expr, Ty}
@@ -10,7 +10,20 @@ use Rattle.l1.specs.Run.{Outcome, answer, Yields}
 use Rattle.l1.specs.Measures.{working}
 use Rattle.l1.specs.Sets.{reads, writes, word}
 use Rattle.l1.specs.Text.{text}
-use Rattle.stored.specs.Refusals.{Refusal, env, Holds, Given, GivenRun, GivenText, Lowest}
+use Rattle.stored.specs.Refusals.{Refusal, number, locations, count, env, Holds, Given, GivenRun, GivenText, Lowest}
+
+-- opening: a refusal of 1 to 9, or m and n
+pub data Opened : Type 0 where
+  refuses : Refusal → Opened
+  opens : ℕ → ℕ → Opened
+
+-- no refusal of 1 to 9 is given
+abbrev pub Opens : List ℕ → Type 0
+Opens b = (r : Refusal) → number r < 10 → ¬ Given b r
+
+pub data Opening (b : List ℕ) : Opened → Type 0 where
+  open-refuses : {r : Refusal} → number r < 10 → Lowest (Given b) r → Opening b (refuses r)
+  open-opens : {e : Expr} → Opens b → Holds b e → Opening b (opens (locations b) (count b))
 
 -- nothing of what could be refused applies
 abbrev pub Nothing : (Refusal → Type 0) → Type 0

@@ -1,0 +1,125 @@
+// What every part knows of a stored routine: why a row is refused, its sizes, and its nodes, read one by one from the caller's own bytes.
+ghost use mathlib.Core.Path.{_≡_};
+ghost use Prim.Native.Nat.{_+_, _≤_, _<_};
+ghost use lib.ListN.{length};
+ghost use Rattle.stored.specs.Bytes.{pair, signed};
+ghost use Rattle.stored.specs.Layout.{start};
+ghost use Rattle.routine.specs.Forms.{formOf, nodeOf, integerOf};
+
+// Why a row is refused: a case for each of 01's numbers, with what the number also returns.
+pub enum Refusal {
+    Short,
+    Count,
+    Version,
+    Locations,
+    Nodes,
+    Length,
+    Layout(u16),
+    Forest,
+    Depth,
+    Undeclared(u16),
+    First(u16),
+    Second(u16),
+    Branches(u16),
+    Store,
+    Buffer(u64),
+    Input,
+}
+
+// n and m of a routine that was opened.
+pub struct Sizes {
+    pub nodes: usize,
+    pub locations: u8,
+}
+
+// The forms of 01's table of kinds, and what is not in it.
+pub enum Form {
+    Integer,
+    Boolean,
+    Plus,
+    Geq,
+    If,
+    Assign,
+    Deref,
+    Skip,
+    Seq,
+    While,
+    Unknown,
+}
+
+// The eight bytes of a node: its form, the small argument, and the numbers of its children.
+pub struct Node {
+    pub form: Form,
+    pub arg: u8,
+    pub first: u16,
+    pub second: u16,
+    pub third: u16,
+}
+
+pub fn wide(x: u8) -> usize
+    ensures { λ r. ⌜ (r ≡ x) × (r < 256) ⌝ }
+{
+    x as usize
+}
+
+// Bytes at and at + 1.
+pub fn pair_at(b: &[u8], at: usize) -> u16
+    requires { ⌜ at + 1 < length (now b) ⌝ }
+    ensures { λ r. ⌜ r ≡ pair (now (b .entry)) at ⌝ }
+{
+    (wide(b[at]) * 256 + wide(b[at + 1])) as u16
+}
+
+pub fn form_of(kind: u8) -> Form
+    ensures { λ r. ⌜ r ≡ formOf kind ⌝ }
+{
+    match kind {
+        0 => Form::Integer,
+        1 => Form::Boolean,
+        2 => Form::Plus,
+        3 => Form::Geq,
+        4 => Form::If,
+        5 => Form::Assign,
+        6 => Form::Deref,
+        7 => Form::Skip,
+        8 => Form::Seq,
+        9 => Form::While,
+        _ => Form::Unknown,
+    }
+}
+
+pub fn node_at(b: &[u8], i: usize) -> Node
+    requires { ⌜ start (i + 1) ≤ length (now b) ⌝ }
+    ensures { λ r. ⌜ r ≡ nodeOf (now (b .entry)) i ⌝ }
+{
+    let at = 6 + 8 * i;
+    Node {
+        form: form_of(b[at]),
+        arg: b[at + 1],
+        first: pair_at(b, at + 2),
+        second: pair_at(b, at + 4),
+        third: pair_at(b, at + 6),
+    }
+}
+
+// A number of 32 bits, read as two's complement.
+pub fn signed_of(u: u32) -> i32
+    ensures { λ r. ⌜ r ≡ signed u ⌝ }
+{
+    if u < 2147483648 {
+        u as i32
+    } else {
+        ((u as i64) - 4294967296) as i32
+    }
+}
+
+// The number that an integer node holds in bytes 4-7.
+pub fn integer_at(b: &[u8], i: usize) -> i32
+    requires { ⌜ start (i + 1) ≤ length (now b) ⌝ }
+    ensures { λ r. ⌜ r ≡ integerOf (now (b .entry)) i ⌝ }
+{
+    let at = 6 + 8 * i;
+    let high = pair_at(b, at + 4);
+    let low = pair_at(b, at + 6);
+    signed_of((high as u32) * 65536 + (low as u32))
+}
