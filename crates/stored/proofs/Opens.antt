@@ -7,17 +7,8 @@ use mathlib.Core.Logic.{Dec·not-not}
 use mathlib.Core.List.{List}
 use lib.ListN.{length}
 use Rattle.stored.specs.Bytes.{byte, pair}
-use Rattle.stored.specs.Answers.{Opens}
+use Rattle.stored.specs.Answers.{Opens, Headed}
 use Rattle.stored.specs.Refusals.{no, locations, count, Given, given-2, given-3, given-4, given-5-none, given-5-over, given-6}
-
--- what 1 to 6 leave
-pub record Headed (b : List ℕ) : Type 0 where
-  pub all-bytes : length b ≡ 6 + 8 * count b
-  pub said-bytes : pair b 0 ≡ 4 + 8 * count b
-  pub version : byte b 2 ≡ 1
-  pub few-locations : locations b ≤ 64
-  pub some-nodes : 0 < count b
-  pub few-nodes : count b ≤ 4096
 
 not-unequal : (x y : ℕ) → ¬ ¬ (x ≡ y) → x ≡ y
 not-unequal x y = Dec·not-not (ℕ-discrete x y) .0

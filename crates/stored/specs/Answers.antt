@@ -1,6 +1,7 @@
 -- 01, "What an accepted routine tells": what opening, the check, the run and the text answer to every list of bytes, and what they leave in
 -- the lent store and buffer.
-use Prim.Native.Nat.{ℕ, _<_}
+use Prim.Native.Nat.{ℕ, _+_, _*_, _≤_, _<_}
+use mathlib.Core.Path.{_≡_}
 use mathlib.Core.List.{List, _++_}
 use lib.ListN.{length, drop}
 use Rattle.l1.specs.Syntax.{Expr, Ty}
@@ -10,6 +11,7 @@ use Rattle.l1.specs.Run.{Outcome, answer, Yields}
 use Rattle.l1.specs.Measures.{working}
 use Rattle.l1.specs.Sets.{reads, writes, word}
 use Rattle.l1.specs.Text.{text}
+use Rattle.stored.specs.Bytes.{byte, pair}
 use Rattle.stored.specs.Refusals.{Refusal, number, locations, count, env, Holds, Given, GivenRun, GivenText, Lowest}
 
 -- opening: a refusal of 1 to 9, or m and n
@@ -20,6 +22,15 @@ pub data Opened : Type 0 where
 -- no refusal of 1 to 9 is given
 abbrev pub Opens : List ℕ → Type 0
 Opens b = (r : Refusal) → number r < 10 → ¬ Given b r
+
+-- the first six bytes as 1 to 6 ask for them
+pub record Headed (b : List ℕ) : Type 0 where
+  pub all-bytes : length b ≡ 6 + 8 * count b
+  pub said-bytes : pair b 0 ≡ 4 + 8 * count b
+  pub version : byte b 2 ≡ 1
+  pub few-locations : locations b ≤ 64
+  pub some-nodes : 0 < count b
+  pub few-nodes : count b ≤ 4096
 
 pub data Opening (b : List ℕ) : Opened → Type 0 where
   open-refuses : {r : Refusal} → number r < 10 → Lowest (Given b) r → Opening b (refuses r)

@@ -1,0 +1,37 @@
+-- What the head, the layout and opening say of the bytes, for each case of their answers.
+use Prim.Native.Nat.{ℕ, _-_, _<_}
+use mathlib.Core.Path.{_≡_}
+use mathlib.Core.List.{List}
+use Rattle.l1.specs.Syntax.{Expr}
+use Rattle.l1.specs.Measures.{size}
+use Rattle.stored.specs.Layout.{TreeAt}
+use Rattle.stored.specs.Reader.{treeAt, StandBelow}
+use Rattle.stored.specs.Refusals.{number, locations, count, Given, Lowest}
+use Rattle.stored.specs.Answers as S
+use Rattle.stored.specs.Answers.{Headed, opens}
+use Rattle.routine.specs.declared.Sizes.{Sizes}
+use Rattle.routine.specs.Says.{refusalOf}
+use Rattle.opener.specs.declared.Head.{Head}
+use Rattle.opener.specs.declared.Head.the-variants as H
+use Rattle.opener.specs.declared.Laid.{Laid}
+use Rattle.opener.specs.declared.Laid.the-variants.{Breaks, Forest, Whole}
+use Rattle.opener.specs.declared.Opened.{Opened}
+use Rattle.opener.specs.declared.Opened.the-variants as O
+
+-- z holds n and m
+abbrev pub SizesOf : List ℕ → Sizes → Type 0
+SizesOf b z = (z .nodes ≡ count b) × (z .locations ≡ locations b)
+
+abbrev pub HeadSays : List ℕ → Head → Type 0
+HeadSays b (H.Refused r) = (number (refusalOf r) < 10) × Lowest (Given b) (refusalOf r)
+HeadSays b (H.Good z) = Headed b × SizesOf b z
+
+abbrev pub LaidSays : List ℕ → Laid → Type 0
+LaidSays b (Breaks i) = (i < count b) × StandBelow b i × ((e : Expr) → ¬ TreeAt b i e)
+LaidSays b Forest = StandBelow b (count b) × (size (treeAt b (count b - 1)) < count b)
+LaidSays b Whole = StandBelow b (count b) × (size (treeAt b (count b - 1)) ≡ count b)
+
+-- the answer of opening, in 01's numbers
+abbrev pub openedOf : Opened → S.Opened
+openedOf (O.Refused r) = S.Opened.refuses (refusalOf r)
+openedOf (O.Routine z) = opens (z .locations) (z .nodes)
