@@ -3,7 +3,7 @@ ghost use mathlib.Core.Path.{_≡_};
 ghost use Prim.Native.Nat.{_+_, _≤_, _<_};
 ghost use lib.ListN.{length};
 ghost use Rattle.stored.specs.Bytes.{pair, signed};
-ghost use Rattle.stored.specs.Layout.{start};
+ghost use Rattle.stored.specs.Layout.{start, kind, arg, child1, child2, child3};
 ghost use Rattle.routine.specs.Forms.{formOf, nodeOf, integerOf};
 
 // Why a row is refused: a case for each of 01's numbers, with what the number also returns.
@@ -102,6 +102,42 @@ pub fn node_at(b: &[u8], i: usize) -> Node
     }
 }
 
+// The parts of node i one at a time, for those that need no whole node.
+pub fn form_at(b: &[u8], i: u32) -> Form
+    requires { ⌜ start (i + 1) ≤ length (now b) ⌝ }
+    ensures { λ r. ⌜ r ≡ formOf (kind (now (b .entry)) i) ⌝ }
+{
+    form_of(b[6 + 8 * (i as usize)])
+}
+
+pub fn arg_at(b: &[u8], i: u32) -> u8
+    requires { ⌜ start (i + 1) ≤ length (now b) ⌝ }
+    ensures { λ r. ⌜ r ≡ arg (now (b .entry)) i ⌝ }
+{
+    b[6 + 8 * (i as usize) + 1]
+}
+
+pub fn first_at(b: &[u8], i: u32) -> u32
+    requires { ⌜ start (i + 1) ≤ length (now b) ⌝ }
+    ensures { λ r. ⌜ r ≡ child1 (now (b .entry)) i ⌝ }
+{
+    pair_at(b, 6 + 8 * (i as usize) + 2) as u32
+}
+
+pub fn second_at(b: &[u8], i: u32) -> u32
+    requires { ⌜ start (i + 1) ≤ length (now b) ⌝ }
+    ensures { λ r. ⌜ r ≡ child2 (now (b .entry)) i ⌝ }
+{
+    pair_at(b, 6 + 8 * (i as usize) + 4) as u32
+}
+
+pub fn third_at(b: &[u8], i: u32) -> u32
+    requires { ⌜ start (i + 1) ≤ length (now b) ⌝ }
+    ensures { λ r. ⌜ r ≡ child3 (now (b .entry)) i ⌝ }
+{
+    pair_at(b, 6 + 8 * (i as usize) + 6) as u32
+}
+
 // A number of 32 bits, read as two's complement.
 pub fn signed_of(u: u32) -> i32
     ensures { λ r. ⌜ r ≡ signed u ⌝ }
@@ -114,11 +150,11 @@ pub fn signed_of(u: u32) -> i32
 }
 
 // The number that an integer node holds in bytes 4-7.
-pub fn integer_at(b: &[u8], i: usize) -> i32
+pub fn integer_at(b: &[u8], i: u32) -> i32
     requires { ⌜ start (i + 1) ≤ length (now b) ⌝ }
     ensures { λ r. ⌜ r ≡ integerOf (now (b .entry)) i ⌝ }
 {
-    let at = 6 + 8 * i;
+    let at = 6 + 8 * (i as usize);
     let high = pair_at(b, at + 4);
     let low = pair_at(b, at + 6);
     signed_of((high as u32) * 65536 + (low as u32))

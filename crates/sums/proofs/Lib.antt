@@ -1,0 +1,1 @@
+pub mod Widened  -- sums of two numbers of 32 bits, made in 64

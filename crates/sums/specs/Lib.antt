@@ -1,0 +1,1 @@
+pub mod Sum  -- a sum in range, or out of it
