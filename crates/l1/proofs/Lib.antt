@@ -15,7 +15,9 @@ pub mod Outcomes  -- exactly one answer of a run with fuel, and what it says
 pub mod Next  -- the computed next act is the next act
 pub mod RunOf  -- the computed run is the run
 pub mod NeverStuck  -- demand 3, of every moment
+pub mod Depth  -- no tree is deeper than it has nodes
 pub mod Nodes  -- where the nodes of a tree stand
+pub mod NodeSums  -- W and the two sets as sums over the nodes
 pub mod TypeUnique  -- one type at most
 pub mod Faults  -- the computed fault of one node
 pub mod Verdict  -- a type, or one refusal at one node

@@ -6,21 +6,17 @@ use Rattle.l1.specs.Syntax.{Expr}
 use Rattle.l1.specs.Measures.{size}
 use Rattle.stored.specs.Layout.{TreeAt}
 use Rattle.stored.specs.Reader.{treeAt, StandBelow}
-use Rattle.stored.specs.Refusals.{number, locations, count, Given, Lowest}
+use Rattle.stored.specs.Refusals.{number, count, Given, Lowest}
 use Rattle.stored.specs.Answers as S
 use Rattle.stored.specs.Answers.{Headed, opens}
-use Rattle.routine.specs.declared.Sizes.{Sizes}
 use Rattle.routine.specs.Says.{refusalOf}
+use Rattle.routine.specs.Open.{SizesOf}
 use Rattle.opener.specs.declared.Head.{Head}
 use Rattle.opener.specs.declared.Head.the-variants as H
 use Rattle.opener.specs.declared.Laid.{Laid}
 use Rattle.opener.specs.declared.Laid.the-variants.{Breaks, Forest, Whole}
 use Rattle.opener.specs.declared.Opened.{Opened}
 use Rattle.opener.specs.declared.Opened.the-variants as O
-
--- z holds n and m
-abbrev pub SizesOf : List ℕ → Sizes → Type 0
-SizesOf b z = (z .nodes ≡ count b) × (z .locations ≡ locations b)
 
 abbrev pub HeadSays : List ℕ → Head → Type 0
 HeadSays b (H.Refused r) = (number (refusalOf r) < 10) × Lowest (Given b) (refusalOf r)

@@ -1,0 +1,45 @@
+-- Of a routine that was opened every node stands in the bytes, and these are the nodes of the tree at the root.
+use Prim.Native.Nat.{ℕ, _+_, _≤_, _<_}
+use native.Mathlib.Nat.{zero-add}
+use native.Mathlib.Omega.{arith}
+use mathlib.Core.Path.{_≡_}
+use mathlib.Core.List.{List}
+use Rattle.l1.specs.Measures.{size, depth}
+use Rattle.l1.specs.Refused.{nodes, Node}
+use Rattle.l1.proofs.Nodes.{nth-some, nodes-length}
+use Rattle.stored.specs.Layout.{TreeAt}
+use Rattle.stored.specs.Reader.{treeAt, StandBelow}
+use Rattle.stored.specs.Refusals.{no, count, given-8, given-9, Holds}
+use Rattle.stored.specs.Answers.{Headed, Opens}
+use Rattle.stored.proofs.Opens.{headed}
+use Rattle.stored.proofs.Subtrees.{size-fits, subtrees}
+use Rattle.stored.proofs.Reader.{read-tree}
+use Rattle.routine.specs.Open.{rootOf}
+
+module _ {b : List ℕ} (o : Opens b) (h : Holds b (rootOf b)) where
+  -- the sizes are within the limits: `Headed` has them
+  pub is-headed : Headed b
+  is-headed = headed b o
+
+  pub root-size : size (rootOf b) ≡ count b
+  root-size =
+      let g8 : ¬ (size (rootOf b) < count b) = λ l. o (no 8) (omega arith) (given-8 h l) in
+      omega (arith, size-fits b (h .tree), h .is-last)
+
+  pub root-depth : depth (rootOf b) ≤ 256
+  root-depth = let g9 : ¬ (256 < depth (rootOf b)) = λ l. o (no 9) (omega arith) (given-9 h l) in omega arith
+
+  -- a tree of the root's nodes stands at node i, and is what `treeAt` reads there
+  both : (i : ℕ) → i < count b → TreeAt b i (treeAt b i) × Node (rootOf b) i (treeAt b i)
+  both i l =
+      let r = root-size in
+      let (d, n) = nth-some (nodes (rootOf b)) i (rw nodes-length (omega arith)) in
+      let t : TreeAt b i d = rw zero-add at (subtrees b (h .tree) 0 (omega (arith, h .is-last)) .stands i d n) in
+      let q : treeAt b i ≡ d = read-tree b (i + 1) t (omega arith) in
+      rw q (t, n)
+
+  pub nodes-stand : StandBelow b (count b)
+  nodes-stand i l = both i l .0
+
+  pub root-nodes : (i : ℕ) → i < count b → Node (rootOf b) i (treeAt b i)
+  root-nodes i l = both i l .1
