@@ -30,7 +30,7 @@ numbered-typeNo tInt = refl
 numbered-typeNo tBool = refl
 numbered-typeNo tUnit = refl
 
-typeNo-unique : {T T′ : Ty} → typeNo T ≡ typeNo T′ → T ≡ T′
+pub typeNo-unique : {T T′ : Ty} → typeNo T ≡ typeNo T′ → T ≡ T′
 typeNo-unique {T} {T′} q = sym (numbered-typeNo T) ∙ ap numbered q ∙ numbered-typeNo T′
 
 -- what the two tests of `fault` decide

@@ -2,3 +2,4 @@ pub mod Past  -- what stands past a list's end, and the last arm of a match on n
 pub mod TwosComplement  -- 32 bits read as two's complement by way of 64
 pub mod Made  -- the tree at a node, by its form
 pub mod Standing  -- every node of an opened routine stands, and is a node of the root
+pub mod Opening  -- what an answer of opening says

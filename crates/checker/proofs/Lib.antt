@@ -1,0 +1,4 @@
+-- The laws behind the check's functions.
+pub mod TypeTurn  -- a turn of the type check's loop, and its two ends
+pub mod Counting  -- what a node adds to W and the two sets
+pub mod Judged  -- the type check and the tally give the check's answer

@@ -1,0 +1,21 @@
+-- `checker::check_open` meets its contract: each case of the type check's answer gives the check's.
+use borrow.Author.Needs.{needs}
+use Rattle.l1.proofs.Verdict.{refused-number}
+use Rattle.checker.proofs.Judged.{faults, accepts}
+use Rattle.checker.proofs.check_open.Statement.{statement}
+use Rattle.checker.proofs.check_open.Tie as tie
+
+pub check-open-spec : {M : Type 1} → statement M
+check-open-spec =
+    tie.close
+    (tie.spec
+    (λ c κs. search needs)
+    (λ c. search needs)
+    (λ c κs. let w = c .before in refused-number (rw (w .c .given .1) at (w .before .before .types .ensures)))
+    (λ c. search needs)
+    (λ c κs. let w = c .before in let s = w .before .before in (s .before .before .pre, (rw (w .t .given .1) at (s .types .ensures)) .0))
+    (λ c κs. search needs)
+    (λ c. let w = c .before .before in let s = w .before .before in
+    rw (c .refusal-of .ensures) (faults (s .before .before .pre) (rw (w .c .given .1) at (s .types .ensures))))
+    (λ c. let w = c .before .before .before in let s = w .before .before in
+    accepts (s .before .before .pre) (rw (w .t .given .1) at (s .types .ensures)) (c .ty-of .ensures) (c .before .count-up .ensures)))

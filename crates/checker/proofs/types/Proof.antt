@@ -1,0 +1,17 @@
+-- `checker::types` meets its contract: an opened routine has at most 4,096 nodes.
+use borrow.Author.Needs.{needs}
+use native.Mathlib.Omega.{arith}
+use Rattle.routine.proofs.Standing.{is-headed}
+use Rattle.checker.proofs.types.Statement.{statement}
+use Rattle.checker.proofs.types.Tie as tie
+
+pub types-spec : {M : Type 1} → statement M
+types-spec =
+    tie.close
+    (tie.spec
+    (λ c. search needs)
+    (λ c κs. search needs)
+    (λ c. search needs)
+    (λ c κs. let o = c .before .before .before .before .pre in (o, omega (arith, is-headed (o .opens) (o .holds))))
+    (λ c. search needs)
+    (λ c. search needs))
