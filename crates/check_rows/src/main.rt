@@ -1,5 +1,6 @@
 // Checks each row of a rows file on standard input and prints a line for each. A record is 2 bytes R, 4 bytes of fuel, 2 bytes E, E entries
 // of 4 bytes and the R bytes of the row, all big-endian; the check looks at the row alone.
+ghost use mathlib.Core.Path.{_≡_};
 ghost use Prim.Native.Nat.{_≤_};
 ghost use lib.ListN.{length};
 use checker::Checked;
@@ -86,21 +87,41 @@ fn two(b: &[u8], at: usize) -> usize
     0
 }
 
-fn check_rows(rows: &[u8]) {
-    let mut at = 0;
-    while at + 8 <= rows.len() {
-        let from = at + 8 + 4 * two(rows, at + 6);
-        let to = from + two(rows, at);
-        if rows.len() < to {
-            return;
-        }
-        check_row(&rows[from..to]);
-        at = to;
+// Reads n bytes to the start of the room, fewer where the input ends.
+fn take(room: &mut [u8], n: usize) -> usize
+    requires { ⌜ n ≤ length (now room) ⌝ }
+    ensures { λ r. ⌜ r ≤ n ⌝ }
+{
+    let got = io::read_full(STDIN_FILENO, &mut room[..n]);
+    if got < n { got } else { n }
+}
+
+// Reads one record and checks its row; false at the end of the input.
+fn one_row(room: &mut [u8]) -> bool
+    requires { ⌜ 65536 ≤ length (now room) ⌝ }
+{
+    if take(room, 8) < 8 {
+        return false;
     }
+    let bytes = two(room, 0);
+    let entries = two(room, 6);
+    // the store's entries, four bytes each, which the check passes over
+    take(room, entries);
+    take(room, entries);
+    take(room, entries);
+    take(room, entries);
+    let n = take(room, bytes);
+    check_row(&room[..n]);
+    true
 }
 
 fn main() {
-    let mut input = [0u8; 1048576];
-    let n = io::read_full(STDIN_FILENO, &mut input);
-    check_rows(&input[..n]);
+    let mut room = io::large_buffer();
+    let mut rows: usize = 0;
+    while rows < 1000000000 {
+        if !one_row(&mut room) {
+            return;
+        }
+        rows += 1;
+    }
 }
