@@ -2,3 +2,4 @@
 pub mod TypeTurn  -- a turn of the type check's loop, and its two ends
 pub mod Counting  -- what a node adds to W and the two sets
 pub mod Judged  -- the type check and the tally give the check's answer
+pub mod OneAnswer  -- the contract of the check leaves one answer

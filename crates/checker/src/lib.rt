@@ -153,22 +153,26 @@ pub fn types(b: &[u8], z: Sizes) -> Typed
     }
 }
 
-// 1 for the kinds that W counts.
+// What W counts of a node.
+const LEAF: usize = 0;
+
+const WORKING: usize = 1;
+
 fn work_of(f: Form) -> usize
     ensures { λ r. ⌜ (r ≡ workBy f) × (r < 2) ⌝ }
 {
     match f {
-        Form::Integer => 0,
-        Form::Boolean => 0,
-        Form::Plus => 1,
-        Form::Geq => 1,
-        Form::If => 1,
-        Form::Assign => 1,
-        Form::Deref => 1,
-        Form::Skip => 0,
-        Form::Seq => 1,
-        Form::While => 1,
-        Form::Unknown => 0,
+        Form::Integer => LEAF,
+        Form::Boolean => LEAF,
+        Form::Plus => WORKING,
+        Form::Geq => WORKING,
+        Form::If => WORKING,
+        Form::Assign => WORKING,
+        Form::Deref => WORKING,
+        Form::Skip => LEAF,
+        Form::Seq => WORKING,
+        Form::While => WORKING,
+        Form::Unknown => LEAF,
     }
 }
 

@@ -11,6 +11,7 @@ pub mod SetWords  -- the words of the read set and the write set
 pub mod Decimal  -- the digits of a number
 pub mod Runs  -- steps in a row
 pub mod Bound  -- T ≤ W + K × (W + 2)
+pub mod Places  -- how many forms enclose the place of the next step
 pub mod Outcomes  -- exactly one answer of a run with fuel, and what it says
 pub mod Next  -- the computed next act is the next act
 pub mod RunOf  -- the computed run is the run

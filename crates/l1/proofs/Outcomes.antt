@@ -96,6 +96,14 @@ pub run-then-answer : {T K f T′ K′ : ℕ} {o : Outcome} {e e₁ e₂ : Expr}
 run-then-answer stay y = simp zero-add y
 run-then-answer (more d ds) y = simp (suc-add, add-assoc) (goes-on d (run-then-answer ds y))
 
+-- a run that ends where it stands
+pub run-then-end : {T K f : ℕ} {o : Outcome} {e e₁ : Expr} {s s₁ : Store}
+    → Run T K e s e₁ s₁ → T ≤ f → Yields (f - T) e₁ s₁ (answer o 0 0 e₁ s₁) → Yields f e s (answer o T K e₁ s₁)
+run-then-end {T} {K} {f} ds h y =
+    let q : T + (f - T) ≡ f = omega arith in
+    let z = run-then-answer ds y in
+    rw (q, add-zero T, add-zero K) at z
+
 -- demand 3's limit and its row with no loop
 pub answer-within-limit : {f T K : ℕ} {o : Outcome} {e e′ : Expr} {s s′ : Store} → Yields f e s (answer o T K e′ s′) → T ≤ limit (working e) K
 answer-within-limit y = run-within-limit (answer-counts-steps y .0)

@@ -3,3 +3,4 @@ pub mod TwosComplement  -- 32 bits read as two's complement by way of 64
 pub mod Made  -- the tree at a node, by its form
 pub mod Standing  -- every node of an opened routine stands, and is a node of the root
 pub mod Opening  -- what an answer of opening says
+pub mod RefusalNames  -- the code's refusals are told apart by 01's numbers and values

@@ -9,10 +9,10 @@ use Rattle.l1.specs.Refused.{nodes, Node}
 use Rattle.l1.proofs.Nodes.{nth-some, nodes-length}
 use Rattle.stored.specs.Layout.{TreeAt}
 use Rattle.stored.specs.Reader.{treeAt, StandBelow}
-use Rattle.stored.specs.Refusals.{no, count, given-8, given-9, Holds}
+use Rattle.stored.specs.Refusals.{count, Holds}
 use Rattle.stored.specs.Answers.{Headed, Opens}
-use Rattle.stored.proofs.Opens.{headed}
-use Rattle.stored.proofs.Subtrees.{size-fits, subtrees}
+use Rattle.stored.proofs.Opens.{headed, all-nodes, not-deep}
+use Rattle.stored.proofs.Subtrees.{subtrees}
 use Rattle.stored.proofs.Reader.{read-tree}
 use Rattle.routine.specs.Open.{rootOf}
 
@@ -22,12 +22,10 @@ module _ {b : List ℕ} (o : Opens b) (h : Holds b (rootOf b)) where
   is-headed = headed b o
 
   pub root-size : size (rootOf b) ≡ count b
-  root-size =
-      let g8 : ¬ (size (rootOf b) < count b) = λ l. o (no 8) (omega arith) (given-8 h l) in
-      omega (arith, size-fits b (h .tree), h .is-last)
+  root-size = all-nodes o h
 
   pub root-depth : depth (rootOf b) ≤ 256
-  root-depth = let g9 : ¬ (256 < depth (rootOf b)) = λ l. o (no 9) (omega arith) (given-9 h l) in omega arith
+  root-depth = not-deep o h
 
   -- a tree of the root's nodes stands at node i, and is what `treeAt` reads there
   both : (i : ℕ) → i < count b → TreeAt b i (treeAt b i) × Node (rootOf b) i (treeAt b i)

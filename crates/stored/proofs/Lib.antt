@@ -4,9 +4,10 @@ pub mod Parts  -- the bytes of some nodes in a row
 pub mod Fits  -- what a routine can hold, part by part
 pub mod Subtrees  -- where a tree stands, its nodes stand
 pub mod Reader  -- one tree at a node at most
-pub mod Opens  -- what refusals 1 to 6 leave
+pub mod Opens  -- what is known where no refusal of 1 to 9 is given
 pub mod ReadBack  -- reading the stored form gives back the tree
 pub mod WrittenBack  -- accepted bytes are the stored form of their tree
 pub mod StoredBytes  -- the stored form is made of bytes
 pub mod OneAnswer  -- any two answers allowed are equal
+pub mod Acceptance  -- what the check's answers say of the bytes
 pub mod Example  -- the bytes of 01's worked example

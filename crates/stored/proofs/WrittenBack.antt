@@ -8,16 +8,16 @@ use lib.ListN.{length, drop, take-append-drop, length-drop}
 use lib.Seq.{take-all}
 use Rattle.l1.specs.Syntax.{Op, Loc, Expr, int, _‹_#_›_, _:=_, !_}
 use Rattle.l1.specs.Range.{InRange}
-use Rattle.l1.specs.Measures.{size, depth}
+use Rattle.l1.specs.Measures.{size}
 use Rattle.stored.specs.Bytes.{byte}
 use Rattle.stored.specs.Stored.{node, rootFrom, nodesFrom, stored, Storable}
 use Rattle.stored.specs.Layout.{start, NodeIs, TreeAt, at-int, at-bool, at-op, at-if, at-assign, at-deref, at-skip, at-seq, at-while}
-use Rattle.stored.specs.Refusals.{no, locations, count, Holds, given-8, given-9}
+use Rattle.stored.specs.Refusals.{locations, Holds}
 use Rattle.stored.specs.Answers.{Opens}
-use Rattle.stored.proofs.Opens.{headed}
+use Rattle.stored.proofs.Opens.{headed, all-nodes, not-deep}
 use Rattle.stored.proofs.Parts.{part, part-join, bytes, take-bytes, halves, node-part}
 use Rattle.stored.proofs.Signed.{signed-in-range, unsigned-signed}
-use Rattle.stored.proofs.Subtrees.{size-fits, subtrees}
+use Rattle.stored.proofs.Subtrees.{subtrees}
 
 module _ (b : List ℕ) (small : (k : ℕ) → byte b k < 256) where
   -- the bytes of n nodes and of the one after them
@@ -92,16 +92,10 @@ module _ (b : List ℕ) (small : (k : ℕ) → byte b k < 256) where
   op-number (at-op nd p q t₁ t₂) = refl
 
   module _ (ok : Opens b) {e : Expr} (h : Holds b e) where
-    -- the root's subtree has all the nodes
-    pub all-nodes : size e ≡ count b
-    all-nodes =
-        let g8 : ¬ (size e < count b) = λ l. ok (no 8) (omega arith) (given-8 h l) in
-        omega (arith, size-fits b (h .tree), h .is-last)
-
     pub bytes-are-stored : b ≡ stored (locations b) e
     unfolding stored part bytes
     bytes-are-stored =
-        let hd = headed b ok in let n = all-nodes in let l = h .is-last in
+        let hd = headed b ok in let n = all-nodes ok h in let l = h .is-last in
         let w = written (h .tree) 0 (omega arith) (omega arith) in
         let s0 = halves (byte b 0) (byte b 1) (small 1) in
         let s4 = halves (byte b 4) (byte b 5) (small 5) in
@@ -111,13 +105,12 @@ module _ (b : List ℕ) (small : (k : ℕ) → byte b k < 256) where
 
     pub tree-is-storable : Storable (locations b) e
     tree-is-storable =
-        let hd = headed b ok in let n = all-nodes in let l = h .is-last in
-        let g9 : ¬ (256 < depth e) = λ d. ok (no 9) (omega arith) (given-9 h d) in
+        let hd = headed b ok in let n = all-nodes ok h in let l = h .is-last in
         let s = subtrees b (h .tree) 0 (omega arith) in
         record {
           few-locations = hd .few-locations;
           few-nodes = omega arith;
-          shallow = omega arith;
+          shallow = not-deep ok h;
           integers = λ i n k. int-fits (s .stands i _ k);
           read-locations = λ i l k. deref-fits (s .stands i _ k);
           written-locations = λ i l d k. assign-fits (s .stands i _ k);
