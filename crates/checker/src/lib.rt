@@ -261,7 +261,7 @@ fn ty_of(t: u8) -> Ty
     }
 }
 
-fn refusal_of(c: u8, i: u16) -> Refusal
+pub fn refusal_of(c: u8, i: u16) -> Refusal
     requires { ⌜ (20 ≤ c) × (c ≤ 23) ⌝ }
     ensures { λ r. ⌜ refusalOf r ≡ no-with c i ⌝ }
 {

@@ -4,3 +4,4 @@ pub mod NodeActs  -- what the act at a node comes to
 pub mod SumActs  -- what a sum comes to
 pub mod ValueActs  -- what a value in the place on top comes to
 pub mod Turns  -- a turn of the machine's loop
+pub mod FirstMoment  -- the first moment of a run

@@ -78,7 +78,7 @@ module _ (b : List ℕ) where
   opening-unique (open-opens none h) (open-refuses n l) = absurd (none _ n (l .does))
   opening-unique (open-opens none h) (open-opens none′ h′) = refl
 
-  given-number : (r : Refusal) → Given b r → number r ≤ 23
+  pub given-number : (r : Refusal) → Given b r → number r ≤ 23
   given-number (no c) g = omega (arith, bare g)
   given-number (no-with c i) g = with-node g .0
 

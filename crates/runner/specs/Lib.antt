@@ -1,0 +1,2 @@
+-- What the run promises.
+pub mod Says  -- the run's answer, in 01's numbers and values
