@@ -1,4 +1,5 @@
 -- 01's number, and what it also returns, for each case of a refusal.
+use Prim.Native.Nat.{ℕ}
 use Rattle.stored.specs.Refusals as S
 use Rattle.stored.specs.Refusals.{no, no-with}
 use Rattle.routine.specs.declared.Refusal.{Refusal}
@@ -22,3 +23,8 @@ refusalOf (Branches i) = no-with 23 i
 refusalOf Store = no 30
 refusalOf (Buffer n) = no-with 32 n
 refusalOf Input = no 40
+
+-- what a refusal also returns, 0 where it returns nothing
+abbrev pub returned : S.Refusal → ℕ
+returned (no c) = 0
+returned (no-with c i) = i

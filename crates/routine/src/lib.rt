@@ -4,7 +4,9 @@ ghost use Prim.Native.Nat.{_+_, _≤_, _<_};
 ghost use lib.ListN.{length};
 ghost use Rattle.stored.specs.Bytes.{pair, signed};
 ghost use Rattle.stored.specs.Layout.{start, kind, arg, child1, child2, child3};
+ghost use Rattle.stored.specs.Refusals.{number};
 ghost use Rattle.routine.specs.Forms.{formOf, nodeOf, integerOf};
+ghost use Rattle.routine.specs.Says.{refusalOf, returned};
 
 // Why a row is refused: a case for each of 01's numbers, with what the number also returns.
 pub enum Refusal {
@@ -24,6 +26,54 @@ pub enum Refusal {
     Store,
     Buffer(u64),
     Input,
+}
+
+// 01's number of a refusal.
+pub fn number_of(r: Refusal) -> u64
+    ensures { λ c. ⌜ c ≡ number (refusalOf r) ⌝ }
+{
+    match r {
+        Refusal::Short => 1,
+        Refusal::Count => 2,
+        Refusal::Version => 3,
+        Refusal::Locations => 4,
+        Refusal::Nodes => 5,
+        Refusal::Length => 6,
+        Refusal::Layout(_) => 7,
+        Refusal::Forest => 8,
+        Refusal::Depth => 9,
+        Refusal::Undeclared(_) => 20,
+        Refusal::First(_) => 21,
+        Refusal::Second(_) => 22,
+        Refusal::Branches(_) => 23,
+        Refusal::Store => 30,
+        Refusal::Buffer(_) => 32,
+        Refusal::Input => 40,
+    }
+}
+
+// What a refusal also returns, 0 where it returns nothing.
+pub fn returned_by(r: Refusal) -> u64
+    ensures { λ i. ⌜ i ≡ returned (refusalOf r) ⌝ }
+{
+    match r {
+        Refusal::Short => 0,
+        Refusal::Count => 0,
+        Refusal::Version => 0,
+        Refusal::Locations => 0,
+        Refusal::Nodes => 0,
+        Refusal::Length => 0,
+        Refusal::Layout(i) => i as u64,
+        Refusal::Forest => 0,
+        Refusal::Depth => 0,
+        Refusal::Undeclared(i) => i as u64,
+        Refusal::First(i) => i as u64,
+        Refusal::Second(i) => i as u64,
+        Refusal::Branches(i) => i as u64,
+        Refusal::Store => 0,
+        Refusal::Buffer(n) => n,
+        Refusal::Input => 0,
+    }
 }
 
 // n and m of a routine that was opened.

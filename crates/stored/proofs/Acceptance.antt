@@ -24,8 +24,11 @@ use Rattle.stored.proofs.WrittenBack.{bytes-are-stored, tree-is-storabl
 
 -- what the check answers to bytes that open, by the tree that they hold
 module _ {b : List ℕ} (ok : Opens b) {e : Expr} (h : Holds b e) where
+  pub nothing-given : {T : Ty} → env b ⊢ e ∶ T → Nothing (Given b)
+  nothing-given t r g = typed-not-refused t (on-type ok h g .1)
+
   pub typed-accepted : {T : Ty} → env b ⊢ e ∶ T → Checks b (tells T (working e) (word (reads e)) (word (writes e)))
-  typed-accepted t = check-tells (λ r g. typed-not-refused t (on-type ok h g .1)) h t
+  typed-accepted t = check-tells (nothing-given t) h t
 
   pub untyped-refused : {c i : ℕ} → Refused (env b) e c i → Checks b (refuses (no-with c i))
   untyped-refused r = check-refuses (record {

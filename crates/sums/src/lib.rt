@@ -1,5 +1,6 @@
-// The two operators on integers of 32 bits: a sum that never wraps, and the comparison.
+// The two operators on integers of 32 bits: a sum that never wraps, and the comparison; and the number without its sign.
 ghost use mathlib.Core.Path.{_≡_};
+ghost use lib.IntN.{natAbs};
 ghost use lib.Signed.{leZ};
 ghost use Rattle.sums.specs.Sum.{sumOf};
 
@@ -26,4 +27,15 @@ pub fn geq(a: i32, b: i32) -> bool
     ensures { λ r. ⌜ r ≡ leZ b a ⌝ }
 {
     a >= b
+}
+
+// A number without its sign, in 64 bits, where that of the lowest has room too.
+pub fn magnitude(n: i32) -> u64
+    ensures { λ r. ⌜ r ≡ natAbs n ⌝ }
+{
+    if n < 0 {
+        (0 - (n as i64)) as u64
+    } else {
+        n as u64
+    }
 }

@@ -2,9 +2,10 @@
 use borrow.Author.Needs.{needs}
 use native.Mathlib.Omega.{arith}
 use Rattle.stored.specs.Answers.{run-yields}
+use Rattle.stored.proofs.Acceptance.{nothing-given}
+use Rattle.stored.proofs.RunAnswers.{nothing-given-run}
 use Rattle.routine.proofs.Standing.{is-headed}
 use Rattle.machine.proofs.FirstMoment.{first-moment}
-use Rattle.runner.proofs.Refusing.{not-refused}
 use Rattle.runner.proofs.run_typed.Statement.{statement}
 use Rattle.runner.proofs.run_typed.Tie as tie
 
@@ -23,4 +24,4 @@ run-typed-spec =
     (λ c. let s = c .before .before .before .before .before .before .before .before in let (ok, z, l) = s .pre in
     let h = is-headed (ok .opens) (ok .holds) in
     let first = first-moment ok l (omega arith) (c .before .before .before .before .no-places .ensures) (c .before .before .before .before .before .start .ensures) in
-    run-yields (not-refused (ok .opens) (ok .holds) (ok .typed) l) (ok .holds) (c .before .before .go-on .ensures _ first .1)))
+    run-yields (nothing-given-run (nothing-given (ok .opens) (ok .holds) (ok .typed)) l) (ok .holds) (c .before .before .go-on .ensures _ first .1)))

@@ -1,9 +1,9 @@
--- `check_rows::take` meets its contract.
+-- `rows::take` meets its contract.
 use borrow.Author.Needs.{needs}
 use native.Mathlib.Omega.{arith}
 use lib.ListN.{length-take}
-use Rattle.check_rows.proofs.take.Statement.{statement}
-use Rattle.check_rows.proofs.take.Tie as tie
+use Rattle.rows.proofs.take.Statement.{statement}
+use Rattle.rows.proofs.take.Tie as tie
 
 pub take-spec : {M : Type 1} → statement M
 take-spec =

@@ -1,0 +1,45 @@
+-- `exports::rigvanesh_check` meets its contract: each case of the check's answer, in numbers.
+use borrow.Author.Needs.{needs}
+use mathlib.Core.Path.{refl}
+use Rattle.checker.specs.Says.{checkedOf}
+use Rattle.checker.specs.declared.Checked.the-variants.{Refused, Accepted}
+use Rattle.exports.proofs.rigvanesh_check.Statement.{statement}
+use Rattle.exports.proofs.rigvanesh_check.Tie as tie
+
+returns : tie.Need-returns
+returns c =
+    let w = c .before .before .before in
+    record {
+      answer = checkedOf (Refused (w .r .given .0 .0));
+      checks = rw (w .r .given .1) at (w .before .before .check .ensures);
+      its-code = c .number-of .ensures;
+      its-words = rw (c .before .returned-by .ensures) refl;
+    }
+
+returns-2 : tie.Need-returns-2
+returns-2 c =
+    let w = c .before .before in
+    record {
+      answer = checkedOf (Accepted (w .t .given .0 .0));
+      checks = rw (w .t .given .1) at (w .before .before .check .ensures);
+      its-code = refl;
+      its-words = rw (c .type-of .ensures) refl;
+    }
+
+pub rigvanesh-check-spec : {M : Type 1} → statement M
+rigvanesh-check-spec =
+    tie.close
+    (tie.spec
+    (λ c κs. search needs)
+    (λ c. search needs)
+    (λ c κs. search needs)
+    (λ c. search needs)
+    (λ c κs. search needs)
+    (λ c. search needs)
+    (λ c κs. search needs)
+    (λ c. search needs)
+    (λ c. search needs)
+    (λ c. search needs)
+    (λ c. search needs)
+    returns
+    returns-2)
