@@ -275,15 +275,28 @@ fn load(b: &[u8], c: u32) -> Work
     }
 }
 
-// The work goes to the node c.
-fn go(b: &[u8], c: u32, act: Act, top: Place, rule: u64) -> Turn
+// The work goes to the node c, under the place that is pushed.
+fn down(b: &[u8], c: u32, top: Place, rule: u64) -> Turn
     requires { ⌜ Runnable (now b) × (c < count (now b)) ⌝ }
-    ensures { λ r. ⌜ Gone (now (b .entry)) c act top rule r ⌝ }
+    ensures { λ r. ⌜ Gone (now (b .entry)) c Act.Push top rule r ⌝ }
 {
     Turn {
         work: load(b, c),
-        act: act,
+        act: Act::Push,
         top: top,
+        rule: rule,
+    }
+}
+
+// The work goes to the node c by a step that leaves no place of its own.
+fn leap(b: &[u8], c: u32, rule: u64) -> Turn
+    requires { ⌜ Runnable (now b) × (c < count (now b)) ⌝ }
+    ensures { λ r. ⌜ Gone (now (b .entry)) c Act.Rest Place.Blank rule r ⌝ }
+{
+    Turn {
+        work: load(b, c),
+        act: Act::Rest,
+        top: Place::Blank,
         rule: rule,
     }
 }
@@ -306,54 +319,18 @@ fn at_node(b: &[u8], s: &[i32], i: u32) -> Turn
     ensures { λ r. ⌜ Went (now (b .entry)) (2 * size (treeAt (now (b .entry)) i)) (treeAt (now (b .entry)) i) (now (s .entry)) (r .work) (r .act) (r .top) (r .rule) ⌝ }
 {
     match routine::form_at(b, i) {
-        Form::Plus => go(
-            b,
-            routine::first_at(b, i),
-            Act::Push,
-            Place::PlusLeft(i),
-            SEARCH,
-        ),
-        Form::Geq => go(
-            b,
-            routine::first_at(b, i),
-            Act::Push,
-            Place::GeqLeft(i),
-            SEARCH,
-        ),
-        Form::If => go(
-            b,
-            routine::first_at(b, i),
-            Act::Push,
-            Place::Test(i),
-            SEARCH,
-        ),
+        Form::Plus => down(b, routine::first_at(b, i), Place::PlusLeft(i), SEARCH),
+        Form::Geq => down(b, routine::first_at(b, i), Place::GeqLeft(i), SEARCH),
+        Form::If => down(b, routine::first_at(b, i), Place::Test(i), SEARCH),
         Form::Assign => {
             let l = short(routine::arg_at(b, i));
-            go(
-                b,
-                routine::first_at(b, i),
-                Act::Push,
-                Place::Store(l),
-                SEARCH,
-            )
+            down(b, routine::first_at(b, i), Place::Store(l), SEARCH)
         }
         Form::Seq => {
             let j = routine::second_at(b, i);
-            go(
-                b,
-                routine::first_at(b, i),
-                Act::Push,
-                Place::First(j),
-                SEARCH,
-            )
+            down(b, routine::first_at(b, i), Place::First(j), SEARCH)
         }
-        Form::While => go(
-            b,
-            routine::first_at(b, i),
-            Act::Push,
-            Place::Again(i),
-            WHILE,
-        ),
+        Form::While => down(b, routine::first_at(b, i), Place::Again(i), WHILE),
         Form::Deref => {
             let l = routine::wide(routine::arg_at(b, i));
             comes_to(Work::Int(s[l]), Act::Rest, DEREF)
@@ -383,57 +360,24 @@ fn at_value(b: &[u8], f: Place, x: Work) -> Turn
     match f {
         Place::PlusLeft(i) => {
             let v = number(x);
-            go(
-                b,
-                routine::second_at(b, i),
-                Act::Push,
-                Place::PlusRight(i, v),
-                SEARCH,
-            )
+            down(b, routine::second_at(b, i), Place::PlusRight(i, v), SEARCH)
         }
         Place::GeqLeft(i) => {
             let v = number(x);
-            go(
-                b,
-                routine::second_at(b, i),
-                Act::Push,
-                Place::GeqRight(i, v),
-                SEARCH,
-            )
+            down(b, routine::second_at(b, i), Place::GeqRight(i, v), SEARCH)
         }
         Place::PlusRight(i, l) => plus_at(i, l, number(x)),
-        Place::GeqRight(_, l) => {
-            let t = sums::geq(l, number(x));
-            comes_to(Work::Bool(t), Act::Rest, GEQ)
-        }
+        Place::GeqRight(_, l) => comes_to(Work::Bool(sums::geq(l, number(x))), Act::Rest, GEQ),
         Place::Test(i) => {
             if truth(x) {
-                go(
-                    b,
-                    routine::second_at(b, i),
-                    Act::Rest,
-                    Place::Blank,
-                    IF_TRUE,
-                )
+                leap(b, routine::second_at(b, i), IF_TRUE)
             } else {
-                go(
-                    b,
-                    routine::third_at(b, i),
-                    Act::Rest,
-                    Place::Blank,
-                    IF_FALSE,
-                )
+                leap(b, routine::third_at(b, i), IF_FALSE)
             }
         }
         Place::Again(i) => {
             if truth(x) {
-                go(
-                    b,
-                    routine::second_at(b, i),
-                    Act::Push,
-                    Place::First(i),
-                    IF_TRUE,
-                )
+                down(b, routine::second_at(b, i), Place::First(i), IF_TRUE)
             } else {
                 comes_to(Work::Skip, Act::Rest, IF_FALSE)
             }
@@ -442,7 +386,7 @@ fn at_value(b: &[u8], f: Place, x: Work) -> Turn
             let v = number(x);
             comes_to(Work::Skip, Act::Write(l, v), ASSIGN)
         }
-        Place::First(j) => go(b, j, Act::Rest, Place::Blank, SEQ),
+        Place::First(j) => leap(b, j, SEQ),
         Place::Blank => comes_to(Work::Skip, Act::Rest, SEARCH),
     }
 }

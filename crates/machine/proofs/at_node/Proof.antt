@@ -108,32 +108,32 @@ at-node-spec =
     (λ c.
     let f = c .before .before .before .before in
     let told = c .before .before .enum-told .given .1 in
-    let gone = gone-by (c .before .first-at .ensures) refl (c .go .ensures) in
+    let gone = gone-by (c .before .first-at .ensures) refl (c .down .ensures) in
     down (ok f) (lt f) (is f told) refl (lt f, child f refl (kids f told .1)) (omega arith) gone)
     (λ c.
     let f = c .before .before .before .before in
     let told = c .before .before .enum-told2 .given .1 in
-    let gone = gone-by (c .before .first-at2 .ensures) refl (c .go2 .ensures) in
+    let gone = gone-by (c .before .first-at2 .ensures) refl (c .down2 .ensures) in
     down (ok f) (lt f) (is f told) refl (lt f, child f refl (kids f told .1)) (omega arith) gone)
     (λ c.
     let f = c .before .before .before .before in
     let told = c .before .before .enum-told3 .given .1 in
-    let gone = gone-by (c .before .first-at3 .ensures) refl (c .go3 .ensures) in
+    let gone = gone-by (c .before .first-at3 .ensures) refl (c .down3 .ensures) in
     down (ok f) (lt f) (is f told) refl (lt f, child f refl (kids f told .1), child f refl (kids f told .2)) (omega arith) gone)
     (λ c.
     let f = c .before .before .before .before .before .before in
     let location = c .before .before .short .ensures ∙ c .before .before .before .arg-at .ensures in
-    let gone = gone-by (c .before .first-at4 .ensures) (ap p.Store location) (c .go4 .ensures) in
+    let gone = gone-by (c .before .first-at4 .ensures) (ap p.Store location) (c .down4 .ensures) in
     down (ok f) (lt f) (is f (c .before .before .before .before .enum-told4 .given .1)) refl tt (omega arith) gone)
     (λ c.
     let f = c .before .before .before .before .before in
     let told = c .before .before .before .enum-told5 .given .1 in
-    let gone = gone-by (c .before .first-at5 .ensures) (ap p.First (c .before .before .second-at .ensures)) (c .go5 .ensures) in
+    let gone = gone-by (c .before .first-at5 .ensures) (ap p.First (c .before .before .second-at .ensures)) (c .down5 .ensures) in
     down (ok f) (lt f) (is f told) refl (child f refl (kids f told .1)) (omega arith) gone)
     (λ c.
     let f = c .before .before .before .before in
     let told = c .before .before .enum-told6 .given .1 in
-    let gone = gone-by (c .before .first-at6 .ensures) refl (c .go6 .ensures) in
+    let gone = gone-by (c .before .first-at6 .ensures) refl (c .down6 .ensures) in
     unfolds (ok f) (lt f) (is f told) refl (child f refl (kids f told .1)) gone)
     (λ c.
     let f = c .before .before .before .before .before .before in

@@ -13,31 +13,31 @@ use Rattle.machine.proofs.at_value.Tie as tie
 
 -- ---- the node to go to is a node of the routine
 
-right-of-sum-is-node : tie.Need-go-requires
+right-of-sum-is-node : tie.Need-down-requires
 right-of-sum-is-node c κs =
     let k = c .before .before .before in
     let z = k .before .before .before in
     (z .pre .0, below (c .second-at .ensures) (subst (Held _) (k .f .given .1) (z .pre .2) .1))
 
-right-of-comparison-is-node : tie.Need-go-requires-2
+right-of-comparison-is-node : tie.Need-down-requires-2
 right-of-comparison-is-node c κs =
     let k = c .before .before .before in
     let z = k .before .before .before in
     (z .pre .0, below (c .second-at2 .ensures) (subst (Held _) (k .f2 .given .1) (z .pre .2) .1))
 
-second-of-if-is-node : tie.Need-go-requires-3
+second-of-if-is-node : tie.Need-leap-requires
 second-of-if-is-node c κs =
     let k = c .before .before .before .before in
     let z = k .before .before .before in
     (z .pre .0, below (c .second-at3 .ensures) (subst (Held _) (k .f5 .given .1) (z .pre .2) .1))
 
-third-of-if-is-node : tie.Need-go-requires-4
+third-of-if-is-node : tie.Need-leap-requires-2
 third-of-if-is-node c κs =
     let k = c .before .before .before .before in
     let z = k .before .before .before in
     (z .pre .0, below (c .third-at .ensures) (subst (Held _) (k .f5 .given .1) (z .pre .2) .2))
 
-body-is-node : tie.Need-go-requires-5
+body-is-node : tie.Need-down-requires-3
 body-is-node c κs =
     let k = c .before .before .before .before in
     let z = k .before .before .before in
@@ -56,7 +56,7 @@ left-of-sum c s covered =
     (gone-by
     (c .before .second-at .ensures)
     (ap (p.PlusRight (k .f .given .0 .0)) (toZ-ofZ w32 (n .number .result) (search needs) ∙ n .number .ensures))
-    (c .go .ensures)))
+    (c .down .ensures)))
 
 left-of-comparison : tie.Need-returns-2
 left-of-comparison c s covered =
@@ -69,7 +69,7 @@ left-of-comparison c s covered =
     (gone-by
     (c .before .second-at2 .ensures)
     (ap (p.GeqRight (k .f2 .given .0 .0)) (toZ-ofZ w32 (n .number2 .result) (search needs) ∙ n .number2 .ensures))
-    (c .go2 .ensures)))
+    (c .down2 .ensures)))
 
 right-of-sum : tie.Need-returns-3
 right-of-sum c s covered =
@@ -102,7 +102,7 @@ test-true c s covered =
     let k = i .before .before .before in
     let z = k .before .before .before in
     in-place (now (z .args .b)) (z .args .x) (k .f5 .given .1) (z .pre)
-    (λ v. chooses-true v (sym (i .before .truth .ensures) ∙ i .if1 .taken) (gone-by (c .before .second-at3 .ensures) refl (c .go3 .ensures)))
+    (λ v. chooses-true v (sym (i .before .truth .ensures) ∙ i .if1 .taken) (gone-by (c .before .second-at3 .ensures) refl (c .leap .ensures)))
 
 test-false : tie.Need-returns-6
 test-false c s covered =
@@ -110,7 +110,7 @@ test-false c s covered =
     let k = i .before .before .before in
     let z = k .before .before .before in
     in-place (now (z .args .b)) (z .args .x) (k .f5 .given .1) (z .pre)
-    (λ v. chooses-false v (sym (i .before .truth .ensures) ∙ i .if1 .left) (gone-by (c .before .third-at .ensures) refl (c .go4 .ensures)))
+    (λ v. chooses-false v (sym (i .before .truth .ensures) ∙ i .if1 .left) (gone-by (c .before .third-at .ensures) refl (c .leap2 .ensures)))
 
 loop-repeats : tie.Need-returns-7
 loop-repeats c s covered =
@@ -118,7 +118,7 @@ loop-repeats c s covered =
     let k = i .before .before .before in
     let z = k .before .before .before in
     in-place (now (z .args .b)) (z .args .x) (k .f6 .given .1) (z .pre)
-    (λ v. repeats v (sym (i .before .truth2 .ensures) ∙ i .if2 .taken) (gone-by (c .before .second-at4 .ensures) refl (c .go5 .ensures)))
+    (λ v. repeats v (sym (i .before .truth2 .ensures) ∙ i .if2 .taken) (gone-by (c .before .second-at4 .ensures) refl (c .down3 .ensures)))
 
 loop-ends : tie.Need-returns-8
 loop-ends c s covered =
@@ -140,7 +140,7 @@ first-of-two : tie.Need-returns-10
 first-of-two c s covered =
     let k = c .before .before in
     let z = k .before .before .before in
-    in-place (now (z .args .b)) (z .args .x) (k .f8 .given .1) (z .pre) (λ v. goes-on v (c .go6 .ensures))
+    in-place (now (z .args .b)) (z .args .x) (k .f8 .given .1) (z .pre) (λ v. goes-on v (c .leap3 .ensures))
 
 pub at-value-spec : {M : Type 1} → statement M
 at-value-spec =
