@@ -9,6 +9,7 @@ pub mod ReadBack  -- reading the stored form gives back the tree
 pub mod WrittenBack  -- accepted bytes are the stored form of their tree
 pub mod StoredBytes  -- the stored form is made of bytes
 pub mod OneAnswer  -- any two answers allowed are equal
+pub mod Traces  -- `trace` prints one list of lines
 pub mod Acceptance  -- what the check's answers say of the bytes
 pub mod RunAnswers  -- what the run's answers say, and that there is one
 pub mod Example  -- the bytes of 01's worked example

@@ -20,7 +20,7 @@ use Rattle.stored.specs.Answers.{Ran, ran, Runs, run-refuses, run-yields
 use Rattle.stored.proofs.Reader.{holds-unique}
 
 -- two lowest refusals have the same number, and by `same` they are then the same
-lowest-is-one : {applies : Refusal → Type 0} {r r′ : Refusal} → (number r ≡ number r′ → applies r → applies r′ → r ≡ r′)
+pub lowest-is-one : {applies : Refusal → Type 0} {r r′ : Refusal} → (number r ≡ number r′ → applies r → applies r′ → r ≡ r′)
     → Lowest applies r → Lowest applies r′ → r ≡ r′
 lowest-is-one {applies} {r} {r′} same l l′ =
     let not-below : ¬ (number r < number r′) = λ h. l′ .no-lower r h (l .does) in
@@ -63,7 +63,7 @@ module _ (b : List ℕ) where
   same-node e (given-type h r) (given-7 l before none) = absurd (omega (arith, refused-number r))
   same-node e (given-type h r) (given-type h′ r′) = refused-unique (rw (holds-unique b h h′) at r) r′ .1
 
-  same-given : (r r′ : Refusal) → number r ≡ number r′ → Given b r → Given b r′ → r ≡ r′
+  pub same-given : (r r′ : Refusal) → number r ≡ number r′ → Given b r → Given b r′ → r ≡ r′
   same-given (no c) (no c′) e g g′ = ap no e
   same-given (no c) (no-with c′ i) e g g′ = absurd (bare g .1 (rw e (with-node g′ .1 (omega (arith, bare g)))))
   same-given (no-with c i) (no c′) e g g′ = absurd (bare g′ .1 (rw (← e) (with-node g .1 (omega (arith, bare g′)))))
@@ -100,7 +100,7 @@ module _ (b : List ℕ) where
   given-run-number (given-30 h) = omega arith
 
   -- the run of the tree that the bytes hold has one answer
-  held-answer : {f : ℕ} {e e′ : Expr} {s : Store} {a a′ : Answer} → Holds b e → Holds b e′ → Yields f e s a → Yields f e′ s a′ → a ≡ a′
+  pub held-answer : {f : ℕ} {e e′ : Expr} {s : Store} {a a′ : Answer} → Holds b e → Holds b e′ → Yields f e s a → Yields f e′ s a′ → a ≡ a′
   held-answer h h′ y y′ = one-answer (rw (holds-unique b h h′) at y) y′
 
   pub runs-unique : {s s₁ s₂ : Store} {f : ℕ} {a a′ : Ran} → Runs b s f a s₁ → Runs b s f a′ s₂ → (a ≡ a′) × (s₁ ≡ s₂)

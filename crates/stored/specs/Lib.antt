@@ -5,3 +5,4 @@ pub mod Layout  -- the tree that stands at a node of the bytes
 pub mod Reader  -- Layout, computed
 pub mod Refusals  -- the numbers of refusal, when each is given, and their order
 pub mod Answers  -- what the check, the run and the text answer
+pub mod Trace  -- the lines that `trace` prints

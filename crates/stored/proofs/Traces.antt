@@ -1,0 +1,46 @@
+-- What `trace` prints is one list of lines: any two that the definition allows for an input are the same. And 01's worked example, whole.
+use Prim.Native.Nat.{ℕ, zero, suc, _≤_}
+use native.Mathlib.Omega.{arith}
+use mathlib.Core.Path.{_≡_, refl, ap, ap₂}
+use mathlib.Core.List.{List, [], _∷_, _++_}
+use Rattle.l1.specs.Syntax.{Expr}
+use Rattle.l1.specs.Store.{Store}
+use Rattle.l1.specs.Run.{Run, stay, more, Outcome, Answer, answer}
+use Rattle.l1.specs.Text.{bytes, ruleName}
+use Rattle.l1.proofs.Determinism.{determinism}
+use Rattle.stored.specs.Refusals.{Refusal, number, routine, Given, GivenTrace, by-its-routine, given-40}
+use Rattle.stored.specs.Trace.{storeIn, moment, moments, lastLine, refusedLine, Prints, prints-refusal, prints-run}
+use Rattle.stored.proofs.Reader.{holds-unique}
+use Rattle.stored.proofs.OneAnswer.{same-given, given-number, lowest-is-one, held-answer}
+
+-- the lines of a run's steps are told by where it starts and how many they are
+same-moments : {T T′ K K′ : ℕ} {e e′ a a′ : Expr} {s s′ z z′ : Store} (k : ℕ)
+    → T ≡ T′ → e ≡ e′ → s ≡ s′ → (ds : Run T K e s a z) (ds′ : Run T′ K′ e′ s′ a′ z′) → moments k ds ≡ moments k ds′
+same-moments k t q p stay stay = refl
+same-moments k t q p stay (more d ds) = absurd (omega arith)
+same-moments k t q p (more d ds) stay = absurd (omega arith)
+same-moments k t q p (more d ds) (more d′ ds′) =
+    let (rule, to, left) = determinism (rw (q, p) at d) d′ in
+    ap₂ _∷_ (rw (rule, to, left) refl) (same-moments (suc k) (omega arith) to left ds ds′)
+
+same-given-trace : {input : List ℕ} {r r′ : Refusal} → number r ≡ number r′ → GivenTrace input r → GivenTrace input r′ → r ≡ r′
+same-given-trace {input} {r} {r′} e (by-its-routine g) (by-its-routine g′) = same-given (routine input) r r′ e g g′
+same-given-trace {input} {r = r} e (by-its-routine g) (given-40 h) = absurd (omega (arith, given-number (routine input) r g))
+same-given-trace {input} {r′ = r′} e (given-40 h) (by-its-routine g) = absurd (omega (arith, given-number (routine input) r′ g))
+same-given-trace e (given-40 h) (given-40 h′) = refl
+
+abbrev steps-of : Answer → ℕ
+steps-of (answer o T K e s) = T
+
+abbrev last-of : Answer → List ℕ
+last-of (answer o T K e s) = lastLine o T K
+
+pub prints-unique : {input : List ℕ} {ls ls′ : List (List ℕ)} → Prints input ls → Prints input ls′ → ls ≡ ls′
+prints-unique (prints-refusal l) (prints-refusal l′) = ap (λ r. refusedLine r ∷ []) (lowest-is-one same-given-trace l l′)
+prints-unique (prints-refusal l) (prints-run none h y ds) = absurd (none _ (l .does))
+prints-unique (prints-run none h y ds) (prints-refusal l) = absurd (none _ (l .does))
+prints-unique {input} (prints-run none h y ds) (prints-run none′ h′ y′ ds′) =
+    let q = holds-unique (routine input) h h′ in
+    let a = held-answer (routine input) h h′ y y′ in
+    ap₂ _∷_ (ap (λ e. moment 0 (bytes "start") e (storeIn input)) q)
+    (ap₂ (λ ms l. ms ++ l ∷ []) (same-moments 0 (ap steps-of a) q refl ds ds′) (ap last-of a))
