@@ -1,10 +1,25 @@
--- 01's worked example, `l0 := !l0 + 25` with one location, and its 38 bytes.
-use Prim.Native.Nat.{ℕ}
+-- 01's worked example, `l0 := !l0 + 25` with one location: its 38 bytes, and what `trace` prints for it.
+use Prim.Native.Nat.{ℕ, _≤_, _<_}
+use native.Mathlib.Omega.{arith}
 use mathlib.Core.Path.{_≡_, refl}
 use mathlib.Core.List.{List, [], _∷_, _++_}
-use lib.IntN.{pos}
-use Rattle.l1.specs.Syntax.{Expr, int, plus, _‹_#_›_, _:=_, !_}
-use Rattle.stored.specs.Stored.{nodesFrom, stored}
+use lib.IntN.{ℤ, pos}
+use lib.Signed.{leZ-yes}
+use Rattle.l1.specs.Syntax.{Op, Loc, Expr, int, plus, _‹_#_›_, _:=_, !_, skip, v-skip, tUnit}
+use Rattle.l1.specs.Store.{Store}
+use Rattle.l1.specs.Typing.{_declares_, _⊢_∶_, t-assign, t-op+, t-deref, t-int}
+use Rattle.l1.specs.Range.{InRange}
+use Rattle.l1.specs.Steps.{op+, op1, deref, assign1, assign2}
+use Rattle.l1.specs.Run.{Run, stay, more, value, answer, Yields, ends-value, goes-on}
+use Rattle.l1.specs.Text.{bytes, digits, text}
+use Rattle.l1.specs.Refused.{Node, first, later}
+use Rattle.stored.specs.Bytes.{signed}
+use Rattle.stored.specs.Stored.{nodesFrom, stored, Storable}
+use Rattle.stored.specs.Refusals.{env, Holds, Given, GivenTrace, by-its-routine, given-40}
+use Rattle.stored.specs.Answers.{Opens, Nothing}
+use Rattle.stored.specs.Trace.{newline, Prints, prints-run}
+use Rattle.stored.proofs.ReadBack.{tree-reads, stored-opens}
+use Rattle.stored.proofs.Acceptance.{nothing-given}
 
 abbrev pub example : Expr
 example = 0 := ((! 0) ‹ plus # 2 › int (pos 25))
@@ -20,3 +35,75 @@ example-bytes =
 pub example-stored : stored 1 example ≡ example-bytes
 unfolding stored nodesFrom
 example-stored = refl
+
+-- ---- the example is accepted
+
+in-range : InRange (pos 25)
+in-range = record { not-low = leZ-yes tt; not-high = leZ-yes tt }
+
+integers : (i : ℕ) (n : ℤ) → Node example i (int n) → InRange n
+integers _ _ (later first) = in-range
+integers _ _ (later (later (later (later x)))) = elim x [ ]
+
+read-locations : (i : ℕ) (l : Loc) → Node example i (! l) → l ≤ 255
+read-locations _ _ first = omega arith
+read-locations _ _ (later (later (later (later x)))) = elim x [ ]
+
+written-locations : (i : ℕ) (l : Loc) (d : Expr) → Node example i (l := d) → l ≤ 255
+written-locations _ _ _ (later (later (later first))) = omega arith
+written-locations _ _ _ (later (later (later (later x)))) = elim x [ ]
+
+numbered : (i j : ℕ) (o : Op) (e₁ e₂ : Expr) → Node example i (e₁ ‹ o # j › e₂) → j ≡ i
+numbered _ _ _ _ _ (later (later first)) = refl
+numbered _ _ _ _ _ (later (later (later (later x)))) = elim x [ ]
+
+storable : Storable 1 example
+storable = record {
+  few-locations = omega arith;
+  few-nodes = omega arith;
+  shallow = omega arith;
+  integers = integers;
+  read-locations = read-locations;
+  written-locations = written-locations;
+  numbered = numbered;
+}
+
+opens : Opens example-bytes
+opens = rw example-stored at (stored-opens 1 example storable)
+
+holds : Holds example-bytes example
+holds = rw example-stored at (tree-reads 1 example storable)
+
+typed : env example-bytes ⊢ example ∶ tUnit
+typed =
+    let declared : env example-bytes declares 0 = record { below = omega arith } in
+    t-assign declared (t-op+ (t-deref declared) t-int)
+
+-- ---- what it prints
+
+-- the routine, then fuel 10 and location 0 at 1875
+abbrev pub example-input : List ℕ
+example-input = example-bytes ++ 0x00 ∷ 0x00 ∷ 0x00 ∷ 0x0A ∷ 0x00 ∷ 0x00 ∷ 0x07 ∷ 0x53 ∷ []
+
+not-refused : Nothing (GivenTrace example-input)
+not-refused r (by-its-routine g) = nothing-given opens holds typed r g
+not-refused r (given-40 h) = h refl
+
+abbrev pub example-lines : List (List ℕ)
+example-lines =
+    (bytes "0 start (l0 := (!l0 + 25)) | 1875" ++ newline)
+    ∷ (bytes "1 deref (l0 := (1875 + 25)) | 1875" ++ newline)
+    ∷ (bytes "2 plus (l0 := 1900) | 1875" ++ newline)
+    ∷ (bytes "3 assign skip | 1900" ++ newline)
+    ∷ (bytes "value skip steps 3 loops 0" ++ newline)
+    ∷ []
+
+pub example-prints : Prints example-input example-lines
+unfolding text digits signed
+example-prints =
+    let there : 0 < 1 = omega arith in
+    let sum : InRange (pos 1900) = record { not-low = leZ-yes tt; not-high = leZ-yes tt } in
+    let reads = assign2 (op1 (deref there refl)) in
+    let adds = assign2 (op+ refl sum) in
+    let writes = assign1 there in
+    prints-run not-refused holds (goes-on reads (goes-on adds (goes-on writes (ends-value v-skip)))) (more reads (more adds (more writes stay)))
