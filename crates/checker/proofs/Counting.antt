@@ -2,33 +2,42 @@
 use Prim.Native.Nat.{ℕ, _+_, _≤_, _<_}
 use native.Mathlib.Omega.{arith}
 use mathlib.Core.Path.{_≡_, refl, ap}
-use mathlib.Core.Bool.{true, false}
+use mathlib.Core.Bool.{Bool, true, false, cond}
 use mathlib.Core.List.{List}
 use lib.Bits.{bitOr}
+use lib.Dec.{ltb}
 use lib.ListN.{take}
 use lib.Seq.{take-all}
-use Rattle.l1.specs.Syntax.{plus, geq, Expr, Ty}
-use Rattle.l1.specs.Typing.{_⊢_∶_, t-assign, t-deref}
+use borrow.Author.Tests.{ltb-true}
+use Rattle.l1.specs.Syntax.{plus, geq, Expr, tInt}
+use Rattle.l1.specs.Judge.{wants, fault}
 use Rattle.l1.specs.Measures.{working}
 use Rattle.l1.specs.Sets.{Use, uses, word}
 use Rattle.l1.specs.Refused.{nodes}
 use Rattle.l1.proofs.Nodes.{nodes-length}
 use Rattle.l1.proofs.NodeSums.{ownWork, ownUses, work-of, uses-of, work-more, uses-more, working-sum, uses-sum}
 use Rattle.l1.proofs.SetWords.{word-append}
-use Rattle.l1.proofs.Verdict.{typed-nodes}
 use Rattle.stored.specs.Layout.{kind, arg, TreeAt, at-int, at-bool, at-op, at-if, at-assign, at-deref, at-skip, at-seq, at-while}
+use Rattle.stored.specs.Reader.{treeAt}
 use Rattle.stored.specs.Refusals.{locations, count, env}
 use Rattle.routine.specs.Forms.{formOf, nodeOf}
 use Rattle.routine.specs.Open.{IsOpen, rootOf}
 use Rattle.routine.specs.declared.Node.{Node}
 use Rattle.routine.specs.declared.Sizes.{Sizes}
 use Rattle.checker.specs.Rules.{workBy, usesBy}
-use Rattle.checker.specs.Says.{Accepted}
 use Rattle.routine.proofs.Standing.{is-headed, root-size, nodes-stand, root-nodes}
 
 -- what the code adds for node i of b is what the root of the tree e adds
 abbrev Adds : List ℕ → ℕ → Expr → Type 0
 Adds b i e = (workBy (formOf (kind b i)) ≡ ownWork e) × ((u : Use) → usesBy u (formOf (kind b i)) (arg b i) ≡ ownUses u e)
+
+-- a location whose rule does not fail is declared
+below : (l m rest : ℕ) → cond (ltb l m) rest 20 ≡ 0 → l < m
+below l m rest c = go (ltb l m) refl
+  where
+    go : (t : Bool) → ltb l m ≡ t → l < m
+    go true h = ltb-true l m h
+    go false h = let z : _≡_ {A = ℕ} 20 0 = rw h at c in absurd (omega arith)
 
 module _ {b : List ℕ} {i : ℕ} where
   adds : {e : Expr} → TreeAt b i e → Adds b i e
@@ -43,18 +52,19 @@ module _ {b : List ℕ} {i : ℕ} where
   adds (at-seq n p q t₁ t₂) = rw (n .its-kind) (refl, λ u. refl)
   adds (at-while n p q t₁ t₂) = rw (n .its-kind) (refl, λ u. refl)
 
-  -- the argument of a typed node is a declared location, or 0 or 1
-  typed-arg : {e : Expr} {T : Ty} → locations b ≤ 64 → TreeAt b i e → env b ⊢ e ∶ T → arg b i < 64
-  typed-arg m (at-int n v) t = omega arith
-  typed-arg m (at-bool {t = true} n) t = omega arith
-  typed-arg m (at-bool {t = false} n) t = omega arith
-  typed-arg m (at-op n p q t₁ t₂) t = omega arith
-  typed-arg m (at-if n p q r t₁ t₂ t₃) t = omega arith
-  typed-arg m (at-assign n p t₁) (t-assign d t) = omega arith
-  typed-arg m (at-deref n) (t-deref d) = omega arith
-  typed-arg m (at-skip n) t = omega arith
-  typed-arg m (at-seq n p q t₁ t₂) t = omega arith
-  typed-arg m (at-while n p q t₁ t₂) t = omega arith
+  -- the argument of a node without a fault is a declared location, or 0 or 1
+  clear-arg : {e : Expr} → locations b ≤ 64 → TreeAt b i e → fault (env b) e ≡ 0 → arg b i < 64
+  unfolding fault
+  clear-arg m (at-int n v) c = omega arith
+  clear-arg m (at-bool {t = true} n) c = omega arith
+  clear-arg m (at-bool {t = false} n) c = omega arith
+  clear-arg m (at-op n p q t₁ t₂) c = omega arith
+  clear-arg m (at-if n p q r t₁ t₂ t₃) c = omega arith
+  clear-arg m (at-assign {l = l} {e = e} n p t₁) c = omega (arith, below l (locations b) (wants tInt e 21 0) c, n .its-arg)
+  clear-arg m (at-deref {l = l} n) c = omega (arith, below l (locations b) 0 c, n .its-arg)
+  clear-arg m (at-skip n) c = omega arith
+  clear-arg m (at-seq n p q t₁ t₂) c = omega arith
+  clear-arg m (at-while n p q t₁ t₂) c = omega arith
 
 -- W and a set's word, over the first i nodes
 abbrev pub workTo : List ℕ → ℕ → ℕ
@@ -69,10 +79,8 @@ module _ {b : List ℕ} {z : Sizes} (o : IsOpen b z) where
     inside : i < count b
     inside = omega (arith, o .sizes .0)
 
-    pub arg-small : Accepted b → d .arg < 64
-    arg-small a =
-        let n = root-nodes (o .opens) (o .holds) i inside in
-        rw q (typed-arg (is-headed (o .opens) (o .holds) .few-locations) (nodes-stand (o .opens) (o .holds) i inside) (typed-nodes a n .1))
+    pub arg-small : fault (env b) (treeAt b i) ≡ 0 → d .arg < 64
+    arg-small c = rw q (clear-arg (is-headed (o .opens) (o .holds) .few-locations) (nodes-stand (o .opens) (o .holds) i inside) c)
 
     pub work-turn : {w v : ℕ} → w ≡ workTo b i → v ≡ workBy (d .form) → w + v ≡ workTo b (i + 1)
     work-turn p r = rw (p, r, q, work-more (root-nodes (o .opens) (o .holds) i inside), adds (nodes-stand (o .opens) (o .holds) i inside) .0)

@@ -13,7 +13,7 @@ use Rattle.stored.proofs.Acceptance.{typed-accepted, untyped-refused}
 use Rattle.routine.specs.Open.{rootOf, IsOpen}
 use Rattle.routine.specs.declared.Sizes.{Sizes}
 use Rattle.checker.specs.declared.Tally.{Tally}
-use Rattle.checker.specs.Says.{TypedSays, TallySays}
+use Rattle.checker.specs.Says.{TypedSays}
 use Rattle.checker.specs.declared.Typed.the-variants.{All}
 
 type-below : (T : Ty) → typeNo T < 3
@@ -25,9 +25,9 @@ module _ {b : List ℕ} {z : Sizes} (o : IsOpen b z) where
   pub faults : {c i : ℕ} → Refused (env b) (rootOf b) c i → Checks b (refuses (no-with c i))
   faults = untyped-refused (o .opens) (o .holds)
 
-  -- T is the type by the number t
-  pub accepts : {t : ℕ} {T : Ty} {s : Tally} → TypedSays b (All t) → (t < 3 → typeNo T ≡ t) → TallySays b s
-      → Checks b (tells T (s .working) (s .reads) (s .writes))
-  accepts {T} (typed, e) named y =
+  -- T is the type by its number
+  pub accepts : {T : Ty} {s : Tally} → TypedSays b (All s) → (s .ty < 3 → typeNo T ≡ s .ty) → Checks b (tells T (s .working) (s .reads) (s .writes))
+  accepts {T} (typed, y) named =
+      let e = y .its-type in
       let q : T ≡ ruleType (rootOf b) = typeNo-unique (named (rw e (type-below (ruleType (rootOf b)))) ∙ e) in
       rw (q, y .its-working, y .its-reads, y .its-writes) (typed-accepted (o .opens) (o .holds) typed)

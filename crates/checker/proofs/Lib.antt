@@ -1,4 +1,5 @@
 -- The laws behind the check's functions.
+pub mod Tables  -- what the words of the code say of each form
 pub mod TypeTurn  -- a turn of the type check's loop, and its two ends
 pub mod Counting  -- what a node adds to W and the two sets
 pub mod Judged  -- the type check and the tally give the check's answer

@@ -24,14 +24,15 @@ use Rattle.checker.specs.Rules.{typeOf}
 abbrev pub Accepted : List ℕ → Type 0
 Accepted b = env b ⊢ rootOf b ∶ ruleType (rootOf b)
 
-abbrev pub TypedSays : List ℕ → Typed → Type 0
-TypedSays b (Fault c i) = Refused (env b) (rootOf b) c i
-TypedSays b (All t) = Accepted b × (t ≡ typeNo (ruleType (rootOf b)))
-
 pub record TallySays (b : List ℕ) (r : Tally) : Type 0 where
+  pub its-type : r .ty ≡ typeNo (ruleType (rootOf b))
   pub its-working : r .working ≡ M.working (rootOf b)
   pub its-reads : r .reads ≡ word (W.reads (rootOf b))
   pub its-writes : r .writes ≡ word (W.writes (rootOf b))
+
+abbrev pub TypedSays : List ℕ → Typed → Type 0
+TypedSays b (Fault c i) = Refused (env b) (rootOf b) c i
+TypedSays b (All t) = Accepted b × TallySays b t
 
 -- the answer of the check, in 01's numbers and values
 abbrev pub checkedOf : Checked → S.Checked

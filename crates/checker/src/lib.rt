@@ -1,16 +1,18 @@
 // Checks a stored routine against the typing rules: refusals 1 to 9 and 20 to 23, else its type, W, and its read and write sets.
 ghost use mathlib.Core.Path.{_≡_};
-ghost use mathlib.Core.Bool.{cond};
-ghost use Prim.Native.Nat.{_≤_, _<_, _^_};
-ghost use lib.ListN.{length, getD};
+ghost use mathlib.Core.Bool.{_||_, cond};
+ghost use Prim.Native.Nat.{_≤_, _<_, _*_, _^_};
+ghost use lib.Dec.{eqb};
+ghost use lib.ListN.{length};
 ghost use Rattle.l1.specs.Judge.{typeNo};
 ghost use Rattle.l1.specs.Sets.{reading, writing, word};
 ghost use Rattle.stored.specs.Answers.{Checks};
+ghost use Rattle.routine.specs.Masks.{Covers, under};
 ghost use Rattle.routine.specs.Open.{IsOpen};
 ghost use Rattle.routine.specs.Says.{refusalOf};
 ghost use Rattle.stored.specs.Refusals.{no-with};
 ghost use Rattle.checker.specs.Rules.{faultBy, typeBy, typeOf, workBy, usesBy};
-ghost use Rattle.checker.specs.Says.{TypedSays, TallySays, Accepted, checkedOf};
+ghost use Rattle.checker.specs.Says.{TypedSays, checkedOf};
 use opener::Opened;
 use routine::Form;
 use routine::Node;
@@ -36,16 +38,18 @@ pub enum Checked {
     Accepted(Told),
 }
 
-// The lowest node whose own rule fails, with the number, or the number of the root's type.
-pub enum Typed {
-    Fault(u8, u16),
-    All(u8),
-}
-
+// The number of the root's type, W and the two sets, over all the nodes, untaken branches included.
 pub struct Tally {
+    pub ty: u8,
     pub working: usize,
     pub reads: u64,
     pub writes: u64,
+}
+
+// The lowest node whose own rule fails, with the number, or what all of them tell.
+pub enum Typed {
+    Fault(u8, u16),
+    All(Tally),
 }
 
 // Types by numbers, as the table of types holds them.
@@ -82,61 +86,138 @@ fn fault_of(d: Node, m: u8, p: u8, q: u8, r: u8) -> u8
     }
 }
 
+// Tables by form, as `routine::digit_of` reads them: from the left those of Unknown, While, Seq, Skip, Deref, Assign, If, Geq, Plus,
+// Boolean, Integer. The types that the first and the second child must have, 3 where any will do.
+const FIRST: u64 = 0x31233010033;
+
+const SECOND: u64 = 0x32333330033;
+
+const ANY: u64 = 3;
+
+// What else a rule asks: 1 that the branches have one type, 2 that the location is declared.
+const FURTHER: u64 = 0x00002210000;
+
+// The type that a rule gives, 3 for the second child's.
+const GIVEN: u64 = 0x22320231010;
+
+fn suits(p: u8, wanted: u64) -> bool
+    ensures { λ t. ⌜ t ≡ (eqb wanted 3 || eqb p wanted) ⌝ }
+{
+    (wanted == ANY) | ((p as u64) == wanted)
+}
+
+// Whether the node's own rule holds, told without a jump on its form.
+fn holds(d: Node, m: u8, p: u8, q: u8, r: u8) -> bool
+    ensures { λ t. ⌜ t ≡ eqb (faultBy (d .form) m (d .arg) p q r) 0 ⌝ }
+{
+    let f = d.form;
+    let l = d.arg;
+    let first = suits(p, routine::digit_of(FIRST, f));
+    let second = suits(q, routine::digit_of(SECOND, f));
+    let further = routine::digit_of(FURTHER, f);
+    first & second & ((further != 1) | (r == q)) & ((further != 2) | (l < m))
+}
+
 // The type that the rule of a form gives; q is the type of its second child.
 fn type_of(f: Form, q: u8) -> u8
     ensures { λ r. ⌜ r ≡ typeBy f q ⌝ }
 {
-    match f {
-        Form::Integer => INT,
-        Form::Boolean => BOOL,
-        Form::Plus => INT,
-        Form::Geq => BOOL,
-        Form::If => q,
-        Form::Assign => UNIT,
-        Form::Deref => INT,
-        Form::Skip => UNIT,
-        Form::Seq => q,
-        Form::While => UNIT,
-        Form::Unknown => UNIT,
+    let given = routine::digit_of(GIVEN, f);
+    pick(given == ANY, q, given as u8)
+}
+
+// What the table of types holds of child j, under a mask: see `opener::entry`.
+fn entry(types: &[u8], mask: usize, j: u16) -> u8
+    requires { ⌜ mask < length (now types) ⌝ }
+    ensures { λ r. ⌜ r ≡ under mask (now (types .entry)) j ⌝ }
+{
+    types[(j as usize) & mask]
+}
+
+fn node_fault(d: Node, m: u8, mask: usize, types: &[u8]) -> u8
+    requires { ⌜ mask < length (now types) ⌝ }
+    ensures { λ r. ⌜ r ≡ faultBy (d .form) m (d .arg) (under mask (now (types .entry)) (d .first)) (under mask (now (types .entry)) (d .second)) (under mask (now (types .entry)) (d .third)) ⌝ }
+{
+    let p = entry(types, mask, d.first);
+    let q = entry(types, mask, d.second);
+    let r = entry(types, mask, d.third);
+    if holds(d, m, p, q, r) {
+        0
+    } else {
+        fault_of(d, m, p, q, r)
     }
 }
 
-// What the table of types holds at j, 0 past its end.
-fn entry(types: &[u8], j: u16) -> u8
-    ensures { λ r. ⌜ r ≡ getD (now (types .entry)) j 0 ⌝ }
+// The forms that W counts, those that read a location, and those that write one: tables as above.
+const WORKING: u64 = 0x01101111100;
+
+const READING: u64 = 0x00001000000;
+
+const WRITING: u64 = 0x00000100000;
+
+fn work_of(f: Form) -> usize
+    ensures { λ r. ⌜ (r ≡ workBy f) × (r < 2) ⌝ }
 {
-    let k = j as usize;
-    if k < types.len() { types[k] } else { 0 }
+    routine::digit_of(WORKING, f) as usize
 }
 
-fn node_fault(d: Node, m: u8, types: &[u8]) -> u8
-    ensures { λ r. ⌜ r ≡ faultBy (d .form) m (d .arg) (getD (now (types .entry)) (d .first) 0) (getD (now (types .entry)) (d .second) 0) (getD (now (types .entry)) (d .third) 0) ⌝ }
+// The word with the bit of location l alone, or with none.
+fn bit_of(t: u64, l: u8) -> u64
+    requires { ⌜ (t < 2) × (l < 64) ⌝ }
+    ensures { λ r. ⌜ r ≡ t * 2 ^ l ⌝ }
 {
-    let p = entry(types, d.first);
-    let q = entry(types, d.second);
-    let r = entry(types, d.third);
-    fault_of(d, m, p, q, r)
+    t << (l as u64)
 }
 
-// Refusals 20 to 23, in one pass over the nodes; the lent table has room for them.
-fn check_nodes(b: &[u8], z: Sizes, types: &mut [u8]) -> Typed
-    requires { ⌜ IsOpen (now b) z × (z .nodes ≤ length (now types)) ⌝ }
+// The locations that the node itself reads, as a word.
+fn reads_of(d: Node) -> u64
+    requires { ⌜ d .arg < 64 ⌝ }
+    ensures { λ r. ⌜ r ≡ word (usesBy reading (d .form) (d .arg)) ⌝ }
+{
+    let f = d.form;
+    bit_of(routine::digit_of(READING, f), d.arg)
+}
+
+// The locations that the node itself writes, as a word.
+fn writes_of(d: Node) -> u64
+    requires { ⌜ d .arg < 64 ⌝ }
+    ensures { λ r. ⌜ r ≡ word (usesBy writing (d .form) (d .arg)) ⌝ }
+{
+    let f = d.form;
+    bit_of(routine::digit_of(WRITING, f), d.arg)
+}
+
+// Refusals 20 to 23, else what the nodes tell, in one pass over them; the lent table has room for them.
+fn check_nodes(b: &[u8], z: Sizes, mask: usize, types: &mut [u8]) -> Typed
+    requires { ⌜ IsOpen (now b) z × (z .nodes ≤ length (now types)) × (mask < length (now types)) × Covers mask (z .nodes) ⌝ }
     ensures { λ r. ⌜ TypedSays (now (b .entry)) r ⌝ }
 {
     let n = z.nodes;
     let m = z.locations;
+    let mut working = 0;
+    let mut reads = 0u64;
+    let mut writes = 0u64;
     let mut i = 0;
     while i < n {
         let d = routine::node_at(b, i);
-        let c = node_fault(d, m, types);
+        let c = node_fault(d, m, mask, types);
         if c != 0 {
             return Typed::Fault(c, i as u16);
         }
         let f = d.form;
-        types[i] = type_of(f, entry(types, d.second));
+        types[i] = type_of(f, entry(types, mask, d.second));
+        working += work_of(f);
+        reads = reads | reads_of(d);
+        writes = writes | writes_of(d);
         i += 1;
     }
-    Typed::All(types[n - 1])
+    let ty = types[n - 1];
+    Typed::All(Tally {
+        ty,
+        working,
+        reads,
+        writes,
+    })
 }
 
 // A small row gets a small table: clearing the large one would cost more than the pass.
@@ -146,108 +227,10 @@ pub fn types(b: &[u8], z: Sizes) -> Typed
 {
     if z.nodes <= 256 {
         let mut small = [0u8; 256];
-        check_nodes(b, z, &mut small)
+        check_nodes(b, z, 255, &mut small)
     } else {
         let mut large = [0u8; 4096];
-        check_nodes(b, z, &mut large)
-    }
-}
-
-// What W counts of a node.
-const LEAF: usize = 0;
-
-const WORKING: usize = 1;
-
-fn work_of(f: Form) -> usize
-    ensures { λ r. ⌜ (r ≡ workBy f) × (r < 2) ⌝ }
-{
-    match f {
-        Form::Integer => LEAF,
-        Form::Boolean => LEAF,
-        Form::Plus => WORKING,
-        Form::Geq => WORKING,
-        Form::If => WORKING,
-        Form::Assign => WORKING,
-        Form::Deref => WORKING,
-        Form::Skip => LEAF,
-        Form::Seq => WORKING,
-        Form::While => WORKING,
-        Form::Unknown => LEAF,
-    }
-}
-
-// The word with the bit of location l alone.
-fn bit_of(l: u8) -> u64
-    requires { ⌜ l < 64 ⌝ }
-    ensures { λ r. ⌜ r ≡ 2 ^ l ⌝ }
-{
-    1u64 << (l as u64)
-}
-
-// The locations that the node itself reads, as a word.
-fn reads_of(d: Node) -> u64
-    requires { ⌜ d .arg < 64 ⌝ }
-    ensures { λ r. ⌜ r ≡ word (usesBy reading (d .form) (d .arg)) ⌝ }
-{
-    let f = d.form;
-    match f {
-        Form::Integer => 0,
-        Form::Boolean => 0,
-        Form::Plus => 0,
-        Form::Geq => 0,
-        Form::If => 0,
-        Form::Assign => 0,
-        Form::Deref => bit_of(d.arg),
-        Form::Skip => 0,
-        Form::Seq => 0,
-        Form::While => 0,
-        Form::Unknown => 0,
-    }
-}
-
-// The locations that the node itself writes, as a word.
-fn writes_of(d: Node) -> u64
-    requires { ⌜ d .arg < 64 ⌝ }
-    ensures { λ r. ⌜ r ≡ word (usesBy writing (d .form) (d .arg)) ⌝ }
-{
-    let f = d.form;
-    match f {
-        Form::Integer => 0,
-        Form::Boolean => 0,
-        Form::Plus => 0,
-        Form::Geq => 0,
-        Form::If => 0,
-        Form::Assign => bit_of(d.arg),
-        Form::Deref => 0,
-        Form::Skip => 0,
-        Form::Seq => 0,
-        Form::While => 0,
-        Form::Unknown => 0,
-    }
-}
-
-// W and the two sets, over all the nodes, untaken branches included.
-fn count_up(b: &[u8], z: Sizes) -> Tally
-    requires { ⌜ IsOpen (now b) z × Accepted (now b) ⌝ }
-    ensures { λ r. ⌜ TallySays (now (b .entry)) r ⌝ }
-{
-    let n = z.nodes;
-    let mut working = 0;
-    let mut reads = 0u64;
-    let mut writes = 0u64;
-    let mut i = 0;
-    while i < n {
-        let d = routine::node_at(b, i);
-        let f = d.form;
-        working += work_of(f);
-        reads = reads | reads_of(d);
-        writes = writes | writes_of(d);
-        i += 1;
-    }
-    Tally {
-        working,
-        reads,
-        writes,
+        check_nodes(b, z, 4095, &mut large)
     }
 }
 
@@ -279,15 +262,12 @@ fn check_open(b: &[u8], z: Sizes) -> Checked
 {
     match types(b, z) {
         Typed::Fault(c, i) => Checked::Refused(refusal_of(c, i)),
-        Typed::All(t) => {
-            let s = count_up(b, z);
-            Checked::Accepted(Told {
-                ty: ty_of(t),
-                working: s.working,
-                reads: s.reads,
-                writes: s.writes,
-            })
-        }
+        Typed::All(s) => Checked::Accepted(Told {
+            ty: ty_of(s.ty),
+            working: s.working,
+            reads: s.reads,
+            writes: s.writes,
+        }),
     }
 }
 

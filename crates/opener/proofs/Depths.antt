@@ -13,6 +13,8 @@ use Rattle.stored.specs.Layout.{kind, child1, child2, child3, TreeAt}
 use Rattle.stored.specs.Reader.{treeAt}
 use Rattle.stored.proofs.Subtrees.{size-fits}
 use Rattle.routine.specs.Forms.{formOf}
+use Rattle.routine.specs.Masks.{under}
+use Rattle.routine.proofs.Masks.{covers-large}
 use Rattle.opener.specs.Shapes.{shapeOf, depthBy}
 use Rattle.opener.proofs.NodeTrees.{TableOf, depth-by}
 
@@ -23,9 +25,9 @@ module _ (b table : List ℕ) (i d : ℕ) where
   table-more v h l q = below-more _ _ (λ j k. getD-set-other table i j d 0 (omega arith) ∙ h j k) (getD-set-same table i d 0 l ∙ q)
 
   -- what the table gives for node i is the depth of its tree, which is no deeper than the nodes up to it
-  pub next-depth : TableOf depth b i (λ j. getD table j 0) → TreeAt b i (treeAt b i)
-      → d ≡ depthBy (shapeOf (formOf (kind b i))) (getD table (child1 b i) 0) (getD table (child2 b i) 0) (getD table (child3 b i) 0)
+  pub next-depth : i ≤ 4096 → TableOf depth b i (λ j. getD table j 0) → TreeAt b i (treeAt b i)
+      → d ≡ depthBy (shapeOf (formOf (kind b i))) (under 4095 table (child1 b i)) (under 4095 table (child2 b i)) (under 4095 table (child3 b i))
       → (d ≡ depth (treeAt b i)) × (d ≤ i + 1)
-  next-depth h t q =
-      let e : d ≡ depth (treeAt b i) = q ∙ sym (depth-by b (λ j. getD table j 0) h t) in
+  next-depth few h t q =
+      let e : d ≡ depth (treeAt b i) = q ∙ sym (depth-by b (under 4095 table) (λ j l. rw (covers-large few j l) (h j l)) t) in
       (e, omega (arith, depth-within-size (treeAt b i), size-fits b t))

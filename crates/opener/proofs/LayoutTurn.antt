@@ -15,6 +15,7 @@ use Rattle.stored.specs.Reader.{treeAt, StandBelow}
 use Rattle.stored.specs.Refusals.{count}
 use Rattle.stored.proofs.Subtrees.{size-fits}
 use Rattle.routine.specs.Forms.{nodeOf}
+use Rattle.routine.specs.Masks.{Covers, under}
 use Rattle.opener.specs.Shapes.{keepsNode, spanOf}
 use Rattle.opener.proofs.NodeTrees.{TableOf, size-by, stands-keeps, keeps-stands}
 
@@ -23,29 +24,29 @@ pub record Passed (b sizes : List ℕ) (j : ℕ) : Type 0 where
   pub stands : TreeAt b j (treeAt b j)
   pub held : getD sizes j 0 ≡ size (treeAt b j)
 
-module _ (b sizes : List ℕ) (i : ℕ) (past : (j : ℕ) → j < i → Passed b sizes j) where
-  table : TableOf size b i (λ j. getD sizes j 0)
-  table j l = past j l .held
+module _ (b sizes : List ℕ) (i mask : ℕ) (past : (j : ℕ) → j < i → Passed b sizes j) (low : Covers mask i) where
+  table : TableOf size b i (under mask sizes)
+  table j l = rw (low j l) (past j l .held)
 
   keeps : Bool
-  keeps = keepsNode (nodeOf b i) i (getD sizes (child2 b i) 0) (getD sizes (child3 b i) 0)
+  keeps = keepsNode (nodeOf b i) i (under mask sizes (child2 b i)) (under mask sizes (child3 b i))
 
-  pub next-stands : (k : ℕ) → k ≡ spanOf b i (λ j. getD sizes j 0) → ¬ (k ≡ 0)
+  pub next-stands : (k : ℕ) → k ≡ spanOf b i (under mask sizes) → ¬ (k ≡ 0)
       → TreeAt b i (treeAt b i) × (k ≡ size (treeAt b i)) × (k ≤ i + 1)
   unfolding spanOf keeps
   next-stands k e some = go keeps refl
     where
       go : (t : Bool) → keeps ≡ t → TreeAt b i (treeAt b i) × (k ≡ size (treeAt b i)) × (k ≤ i + 1)
       go true h =
-          let t = keeps-stands b (λ j l. past j l .stands) (λ j. getD sizes j 0) table h in
+          let t = keeps-stands b (λ j l. past j l .stands) (under mask sizes) table h in
           let z : k ≡ size (treeAt b i) = (rw h at e) ∙ sym (size-by b _ table t) in
           (t, z, omega (arith, size-fits b t))
       go false h = absurd (some (rw h at e))
 
-  pub next-breaks : (k : ℕ) → arg b i < 256 → k ≡ spanOf b i (λ j. getD sizes j 0) → k ≡ 0 → (e : Expr) → ¬ TreeAt b i e
+  pub next-breaks : (k : ℕ) → arg b i < 256 → k ≡ spanOf b i (under mask sizes) → k ≡ 0 → (e : Expr) → ¬ TreeAt b i e
   unfolding spanOf keeps
   next-breaks k a h none e t =
-      let kept : keeps ≡ true = stands-keeps b (λ j. getD sizes j 0) table a t in
+      let kept : keeps ≡ true = stands-keeps b (under mask sizes) table a t in
       let z : k ≡ size e = (rw kept at h) ∙ sym (size-by b _ table t) in
       omega (arith, size-positive e)
 

@@ -14,14 +14,12 @@ use Rattle.stored.specs.Layout.{at-int, at-bool, at-op, at-if, at-assign, at-de
 use Rattle.stored.specs.Reader.{treeAt, StandBelow}
 use Rattle.stored.proofs.Reader.{read-tree}
 use Rattle.routine.specs.Forms.{formOf, nodeOf}
-use Rattle.opener.specs.declared.Shape.{Shape}
-use Rattle.opener.specs.declared.Shape.the-variants.{Leaf, Number, One, Two, Three, Nothing}
-use Rattle.opener.specs.Shapes.{shapeOf, argTop, placed, keepsNode, sizeBy, depthBy}
+use Rattle.opener.specs.Shapes.{Shape, Leaf, Number, One, Two, Three, Nothing, shapeOf, argTop, placed, keepsNode, sizeBy, depthBy}
 
 clash : {A : Type 0} → false ≡ true → A
 clash e = absurd (let z : _≡_ {A = ℕ} 0 1 = cc in omega arith)
 
-both : (a b : Bool) → a && b ≡ true → (a ≡ true) × (b ≡ true)
+pub both : (a b : Bool) → a && b ≡ true → (a ≡ true) × (b ≡ true)
 both true b e = (refl, e)
 both false b e = clash e
 

@@ -8,8 +8,10 @@ use Rattle.routine.specs.declared.Form.{Form}
 use Rattle.routine.specs.declared.Form.the-variants.{Integer, Boolean, Plus, Geq, If, Assign, Deref, Skip, Seq, While, Unknown}
 use Rattle.routine.specs.declared.Node.{Node}
 use Rattle.routine.specs.Forms.{formOf, nodeOf}
-use Rattle.opener.specs.declared.Shape.{Shape}
-use Rattle.opener.specs.declared.Shape.the-variants.{Leaf, Number, One, Two, Three, Nothing}
+
+-- which of bytes 2-7 a form uses: none, a number, or one, two or three children
+pub data Shape : Type 0 where
+  Leaf Number One Two Three Nothing : Shape
 
 abbrev pub shapeOf : Form → Shape
 shapeOf Integer = Number
@@ -46,6 +48,11 @@ placed One i x y z q r = eqb (x + 1) i && eqb y 0 && eqb z 0
 placed Two i x y z q r = eqb (y + 1) i && eqb (x + q) y && eqb z 0
 placed Three i x y z q r = eqb (z + 1) i && eqb (y + r) z && eqb (x + q) y
 placed Nothing i x y z q r = false
+
+-- the child c of node i, `has` telling whether the node has it: w nodes before the next child where there is one more, else right before
+-- the node
+abbrev pub standsBy : Bool → Bool → ℕ → ℕ → ℕ → ℕ → Bool
+standsBy has more c i next w = eqb (c + cond more w (cond has 1 0)) (cond more next (cond has i 0))
 
 abbrev pub keepsNode : Node → ℕ → ℕ → ℕ → Bool
 keepsNode d i q r = leb (d .arg) (argTop (d .form)) && placed (shapeOf (d .form)) i (d .first) (d .second) (d .third) q r

@@ -1,16 +1,17 @@
 // Opens a stored routine: refusals 1 to 9, in 01's order.
 ghost use mathlib.Core.Path.{_≡_};
-ghost use Prim.Native.Nat.{ℕ, _+_, _-_, _≤_, _<_, max};
-ghost use mathlib.Core.Bool.{_&&_};
-ghost use lib.ListN.{length, getD};
-ghost use lib.Dec.{ltb};
+ghost use Prim.Native.Nat.{_+_, _*_, _-_, _/_, _^_, _≤_, _<_, max};
+ghost use mathlib.Core.Bool.{cond};
+ghost use lib.ListN.{length};
+ghost use lib.Dec.{leb, ltb};
 ghost use Rattle.l1.specs.Measures.{size, depth};
 ghost use Rattle.stored.specs.Layout.{start, child1, child2, child3, kind};
 ghost use Rattle.stored.specs.Reader.{treeAt, StandBelow};
 ghost use Rattle.stored.specs.Refusals.{count};
 ghost use Rattle.stored.specs.Answers.{Headed, Opening};
-ghost use Rattle.routine.specs.Forms.{formOf};
-ghost use Rattle.opener.specs.Shapes.{shapeOf, argTop, placed, keepsNode, sizeBy, spanOf, depthBy};
+ghost use Rattle.routine.specs.Forms.{formOf, digitOf};
+ghost use Rattle.opener.specs.Shapes.{shapeOf, argTop, standsBy, placed, keepsNode, spanOf, depthBy};
+ghost use Rattle.routine.specs.Masks.{Covers, under};
 ghost use Rattle.routine.specs.Open.{SizesOf};
 ghost use Rattle.opener.specs.Says.{HeadSays, LaidSays, openedOf};
 use routine::Form;
@@ -28,16 +29,6 @@ pub enum Opened {
 pub enum Head {
     Refused(Refusal),
     Good(Sizes),
-}
-
-// Which of bytes 2-7 a form uses: none, a number, or one, two or three children.
-pub enum Shape {
-    Leaf,
-    Number,
-    One,
-    Two,
-    Three,
-    Nothing,
 }
 
 // Whether every node keeps the layout, and whether the root's subtree has all of them.
@@ -86,117 +77,103 @@ fn read_head(b: &[u8]) -> Head
     })
 }
 
-fn shape_of(f: Form) -> Shape
-    ensures { λ r. ⌜ r ≡ shapeOf f ⌝ }
+// No function below jumps on a form: see `routine::digit_of`.
+fn pick(t: bool, a: usize, b: usize) -> usize
+    ensures { λ r. ⌜ (r ≡ cond t a b) × (r ≤ a + b) ⌝ }
 {
-    match f {
-        Form::Integer => Shape::Number,
-        Form::Boolean => Shape::Leaf,
-        Form::Plus => Shape::Two,
-        Form::Geq => Shape::Two,
-        Form::If => Shape::Three,
-        Form::Assign => Shape::One,
-        Form::Deref => Shape::Leaf,
-        Form::Skip => Shape::Leaf,
-        Form::Seq => Shape::Two,
-        Form::While => Shape::Two,
-        Form::Unknown => Shape::Nothing,
-    }
+    if t { a } else { b }
 }
 
-// The largest byte 1 that a form takes.
+// The largest byte 1 that a form takes: the table has its bits.
 fn arg_top(f: Form) -> u8
     ensures { λ r. ⌜ r ≡ argTop f ⌝ }
 {
-    match f {
-        Form::Integer => 0,
-        Form::Boolean => 1,
-        Form::Plus => 0,
-        Form::Geq => 0,
-        Form::If => 0,
-        Form::Assign => 255,
-        Form::Deref => 255,
-        Form::Skip => 0,
-        Form::Seq => 0,
-        Form::While => 0,
-        Form::Unknown => 0,
-    }
+    ((1u64 << routine::digit_of(0x00008800010, f)) - 1) as u8
 }
 
-// What a table holds at j, 0 past its end.
-fn entry(table: &[u16], j: u16) -> u16
-    ensures { λ r. ⌜ r ≡ getD (now (table .entry)) j 0 ⌝ }
+// What a table holds of child j, read under a mask: where the node has no such child, j may be half of an integer, and a test whether it
+// stands past the table's end could not be foreseen.
+fn entry(table: &[u16], mask: usize, j: u16) -> usize
+    requires { ⌜ mask < length (now table) ⌝ }
+    ensures { λ r. ⌜ (r ≡ under mask (now (table .entry)) j) × (r < 65536) ⌝ }
 {
-    let k = j as usize;
-    if k < table.len() { table[k] } else { 0 }
+    wide(table[wide(j) & mask])
 }
+
+// Whether c stands where child c of node i must, `has` telling whether the node has it: w nodes before the next child where there is one
+// more, else right before the node.
+fn stands(has: bool, more: bool, c: u16, i: usize, next: u16, w: usize) -> bool
+    requires { ⌜ w < 65536 ⌝ }
+    ensures { λ t. ⌜ t ≡ standsBy has more c i next w ⌝ }
+{
+    let back = pick(more, w, pick(has, 1, 0));
+    let end = pick(more, wide(next), pick(has, i, 0));
+    wide(c) + back == end
+}
+
+// The two forms that are not told by their children: an integer's bytes 4-7 are a number, and what is not in the table of kinds
+// stands nowhere.
+const NUMBER: u64 = 1;
+
+const NOTHING: u64 = 2;
+
+const APART: u64 = 0x20000000001;
 
 // Whether the children x, y and z of node i stand where they must, q and r being the nodes under the second and the third.
-fn is_placed(s: Shape, i: usize, x: u16, y: u16, z: u16, q: u16, r: u16) -> bool
-    ensures { λ t. ⌜ t ≡ placed s i x y z q r ⌝ }
+fn is_placed(f: Form, i: usize, x: u16, y: u16, z: u16, q: usize, r: usize) -> bool
+    requires { ⌜ (q < 65536) × (r < 65536) ⌝ }
+    ensures { λ t. ⌜ t ≡ placed (shapeOf f) i x y z q r ⌝ }
 {
-    match s {
-        Shape::Leaf => (x == 0) & (y == 0) & (z == 0),
-        Shape::Number => x == 0,
-        Shape::One => ((x as usize) + 1 == i) & (y == 0) & (z == 0),
-        Shape::Two => ((y as usize) + 1 == i)
-            & ((x as usize) + (q as usize) == (y as usize))
-            & (z == 0),
-        Shape::Three => {
-            ((z as usize) + 1 == i)
-                & ((y as usize) + (r as usize) == (z as usize))
-                & ((x as usize) + (q as usize) == (y as usize))
-        }
-        Shape::Nothing => false,
-    }
+    let a = routine::arity_of(f);
+    let apart = routine::digit_of(APART, f);
+    let first = stands(1 <= a, 2 <= a, x, i, y, q);
+    let second = stands(2 <= a, 3 <= a, y, i, z, r);
+    let third = stands(3 <= a, false, z, i, 0, 0);
+    first & ((second & third) | (apart == NUMBER)) & (apart != NOTHING)
 }
 
 // Whether node i keeps the layout, q and r being the nodes under its second and third child.
-fn keeps(d: Node, i: usize, q: u16, r: u16) -> bool
+fn keeps(d: Node, i: usize, q: usize, r: usize) -> bool
+    requires { ⌜ (q < 65536) × (r < 65536) ⌝ }
     ensures { λ t. ⌜ t ≡ keepsNode d i q r ⌝ }
 {
     let f = d.form;
-    (d.arg <= arg_top(f)) & is_placed(shape_of(f), i, d.first, d.second, d.third, q, r)
+    (d.arg <= arg_top(f)) & is_placed(f, i, d.first, d.second, d.third, q, r)
 }
 
-// The nodes of a subtree, from those of its root's children.
-fn grown(s: Shape, p: u16, q: u16, r: u16) -> usize
-    ensures { λ t. ⌜ t ≡ sizeBy s p q r ⌝ }
+// The nodes of the subtree of a node i that keeps the layout and has a children: those from its first child x on, and the p under that.
+fn grown(a: u64, i: usize, x: u16, p: usize) -> usize
+    requires { ⌜ (x ≤ i) × (i < 65536) × (p < 65536) ⌝ }
+    ensures { λ t. ⌜ t ≡ cond (leb 1 a) (i - x + p) 1 ⌝ }
 {
-    match s {
-        Shape::Leaf => 1,
-        Shape::Number => 1,
-        Shape::One => 1 + (p as usize),
-        Shape::Two => 1 + (p as usize) + (q as usize),
-        Shape::Three => 1 + (p as usize) + (q as usize) + (r as usize),
-        Shape::Nothing => 1,
-    }
+    pick(1 <= a, i - wide(x) + p, 1)
 }
 
 // The nodes of node i's subtree, 0 where the node breaks the layout; the table holds those of the nodes before it.
-fn span(b: &[u8], i: usize, sizes: &[u16]) -> usize
-    requires { ⌜ start (i + 1) ≤ length (now b) ⌝ }
-    ensures { λ r. ⌜ r ≡ spanOf (now (b .entry)) i (λ j. getD (now (sizes .entry)) j 0) ⌝ }
+fn span(b: &[u8], i: usize, mask: usize, sizes: &[u16]) -> usize
+    requires { ⌜ (start (i + 1) ≤ length (now b)) × (mask < length (now sizes)) × (i < 65536) ⌝ }
+    ensures { λ r. ⌜ r ≡ spanOf (now (b .entry)) i (under mask (now (sizes .entry))) ⌝ }
 {
     let d = routine::node_at(b, i);
-    let q = entry(sizes, d.second);
-    let r = entry(sizes, d.third);
+    let f = d.form;
+    let p = entry(sizes, mask, d.first);
+    let q = entry(sizes, mask, d.second);
+    let r = entry(sizes, mask, d.third);
     if keeps(d, i, q, r) {
-        let f = d.form;
-        grown(shape_of(f), entry(sizes, d.first), q, r)
+        grown(routine::arity_of(f), i, d.first, p)
     } else {
         0
     }
 }
 
 // Refusals 7 and 8, in one pass over the nodes; the lent table has room for them.
-fn lay(b: &[u8], n: usize, sizes: &mut [u16]) -> Laid
-    requires { ⌜ Headed (now b) × (n ≡ count (now b)) × (n ≤ length (now sizes)) ⌝ }
+fn lay(b: &[u8], n: usize, mask: usize, sizes: &mut [u16]) -> Laid
+    requires { ⌜ Headed (now b) × (n ≡ count (now b)) × (n ≤ length (now sizes)) × (mask < length (now sizes)) × Covers mask n ⌝ }
     ensures { λ r. ⌜ LaidSays (now (b .entry)) r ⌝ }
 {
     let mut i = 0;
     while i < n {
-        let k = span(b, i, sizes);
+        let k = span(b, i, mask, sizes);
         if k == 0 {
             return Laid::Breaks(i as u16);
         }
@@ -217,10 +194,10 @@ fn layout(b: &[u8], n: usize) -> Laid
 {
     if n <= 256 {
         let mut sizes = [0u16; 256];
-        lay(b, n, &mut sizes)
+        lay(b, n, 255, &mut sizes)
     } else {
         let mut sizes = [0u16; 4096];
-        lay(b, n, &mut sizes)
+        lay(b, n, 4095, &mut sizes)
     }
 }
 
@@ -230,32 +207,35 @@ fn larger(a: usize, b: usize) -> usize
     if a < b { b } else { a }
 }
 
-// The depth of a subtree, from those of its root's children.
-fn deeper(s: Shape, p: u16, q: u16, r: u16) -> usize
-    ensures { λ t. ⌜ t ≡ depthBy s p q r ⌝ }
+// What a child tells, 0 where a table has 8 for the form and not 0. A `pick` would become a jump here.
+fn told_by(p: usize, table: u64, f: Form) -> usize
+    requires { ⌜ p < 65536 ⌝ }
+    ensures { λ r. ⌜ (r ≡ p / 2 ^ (2 * digitOf table f)) × (r ≤ p) ⌝ }
 {
-    match s {
-        Shape::Leaf => 1,
-        Shape::Number => 1,
-        Shape::One => 1 + (p as usize),
-        Shape::Two => 1 + larger(p as usize, q as usize),
-        Shape::Three => 1 + larger(p as usize, larger(q as usize, r as usize)),
-        Shape::Nothing => 1,
-    }
+    p >> (2 * (routine::digit_of(table, f) as usize))
+}
+
+// The depth of a subtree, from those of its root's children; the tables have 8 for the forms with no first, second and third child.
+fn deeper(f: Form, p: usize, q: usize, r: usize) -> usize
+    requires { ⌜ (p < 65536) × (q < 65536) × (r < 65536) ⌝ }
+    ensures { λ t. ⌜ t ≡ depthBy (shapeOf f) p q r ⌝ }
+{
+    let first = told_by(p, 0x80088000088, f);
+    let second = told_by(q, 0x80088800088, f);
+    let third = told_by(r, 0x88888808888, f);
+    1 + larger(first, larger(second, third))
 }
 
 fn node_depth(b: &[u8], i: usize, depths: &[u16]) -> usize
-    requires { ⌜ start (i + 1) ≤ length (now b) ⌝ }
-    ensures { λ t. ⌜ t ≡ depthBy (shapeOf (formOf (kind (now (b .entry)) i))) (getD (now (depths .entry)) (child1 (now (b .entry)) i) 0) (getD (now (depths .entry)) (child2 (now (b .entry)) i) 0) (getD (now (depths .entry)) (child3 (now (b .entry)) i) 0) ⌝ }
+    requires { ⌜ (start (i + 1) ≤ length (now b)) × (4095 < length (now depths)) ⌝ }
+    ensures { λ t. ⌜ t ≡ depthBy (shapeOf (formOf (kind (now (b .entry)) i))) (under 4095 (now (depths .entry)) (child1 (now (b .entry)) i)) (under 4095 (now (depths .entry)) (child2 (now (b .entry)) i)) (under 4095 (now (depths .entry)) (child3 (now (b .entry)) i)) ⌝ }
 {
     let d = routine::node_at(b, i);
     let f = d.form;
-    deeper(
-        shape_of(f),
-        entry(depths, d.first),
-        entry(depths, d.second),
-        entry(depths, d.third),
-    )
+    let p = entry(depths, 4095, d.first);
+    let q = entry(depths, 4095, d.second);
+    let r = entry(depths, 4095, d.third);
+    deeper(f, p, q, r)
 }
 
 // The depth of the root.

@@ -1,5 +1,5 @@
 -- The forms by their kinds, what the eight bytes of a node hold, and the tree of a node by its form.
-use Prim.Native.Nat.{ℕ, _+_, _*_, _<_}
+use Prim.Native.Nat.{ℕ, _+_, _*_, _<_, _/_, _%_, _^_}
 use mathlib.Core.List.{List, [], _∷_}
 use lib.Dec.{eqb}
 use lib.IntN.{ℤ}
@@ -17,6 +17,37 @@ forms = Integer ∷ Boolean ∷ Plus ∷ Geq ∷ If ∷ Assign ∷ Deref ∷ Ski
 
 abbrev pub formOf : ℕ → Form
 formOf k = getD forms k Unknown
+
+abbrev pub kindOf : Form → ℕ
+kindOf Integer = 0
+kindOf Boolean = 1
+kindOf Plus = 2
+kindOf Geq = 3
+kindOf If = 4
+kindOf Assign = 5
+kindOf Deref = 6
+kindOf Skip = 7
+kindOf Seq = 8
+kindOf While = 9
+kindOf Unknown = 10
+
+-- the digit of four bits that a table in one word holds of a form, that of kind 0 the last
+unfoldable pub digitOf : ℕ → Form → ℕ
+digitOf table f = table / 2 ^ (4 * (kindOf f % 16)) % 16
+
+-- how many children a form has
+abbrev pub arityOf : Form → ℕ
+arityOf Integer = 0
+arityOf Boolean = 0
+arityOf Plus = 2
+arityOf Geq = 2
+arityOf If = 3
+arityOf Assign = 1
+arityOf Deref = 0
+arityOf Skip = 0
+arityOf Seq = 2
+arityOf While = 2
+arityOf Unknown = 0
 
 abbrev pub nodeOf : List ℕ → ℕ → Node
 nodeOf b i = record { form = formOf (kind b i); arg = arg b i; first = child1 b i; second = child2 b i; third = child3 b i }

@@ -5,7 +5,7 @@ ghost use lib.ListN.{length};
 ghost use Rattle.stored.specs.Bytes.{pair, signed};
 ghost use Rattle.stored.specs.Layout.{start, kind, arg, child1, child2, child3};
 ghost use Rattle.stored.specs.Refusals.{number};
-ghost use Rattle.routine.specs.Forms.{formOf, nodeOf, integerOf};
+ghost use Rattle.routine.specs.Forms.{formOf, kindOf, digitOf, arityOf, nodeOf, integerOf};
 ghost use Rattle.routine.specs.Says.{refusalOf, returned};
 
 // Why a row is refused: a case for each of 01's numbers, with what the number also returns.
@@ -136,6 +136,40 @@ pub fn form_of(kind: u8) -> Form
         9 => Form::While,
         _ => Form::Unknown,
     }
+}
+
+// The kind of a form, 10 for what is not in the table.
+fn kind_of(f: Form) -> u64
+    ensures { λ r. ⌜ r ≡ kindOf f ⌝ }
+{
+    match f {
+        Form::Integer => 0,
+        Form::Boolean => 1,
+        Form::Plus => 2,
+        Form::Geq => 3,
+        Form::If => 4,
+        Form::Assign => 5,
+        Form::Deref => 6,
+        Form::Skip => 7,
+        Form::Seq => 8,
+        Form::While => 9,
+        Form::Unknown => 10,
+    }
+}
+
+// What a table in one word says of a form: a digit of four bits for each kind, that of kind 0 the last. The nodes' forms come in no
+// order that a processor could foresee, so a `match` on each would cost a mispredicted jump; a shift costs none.
+pub fn digit_of(table: u64, f: Form) -> u64
+    ensures { λ r. ⌜ (r ≡ digitOf table f) × (r < 16) ⌝ }
+{
+    (table >> (4 * (kind_of(f) % 16))) % 16
+}
+
+// How many children a form has.
+pub fn arity_of(f: Form) -> u64
+    ensures { λ r. ⌜ r ≡ arityOf f ⌝ }
+{
+    digit_of(0x02200132200, f)
 }
 
 pub fn node_at(b: &[u8], i: usize) -> Node

@@ -1,18 +1,73 @@
--- `checker::check_nodes` meets its contract: at the loop's head the nodes below i are passed, with their types in the table.
+-- `checker::check_nodes` meets its contract: at the loop's head the nodes below i are passed, with their types in the table, and W and the
+-- two words are those of these nodes.
 use Prim.Native.Nat.{ℕ, _-_, _≤_, _<_}
 use native.Mathlib.Omega.{arith}
-use mathlib.Core.Path.{_≡_, refl}
+use mathlib.Core.Path.{_≡_, refl, sym, _∙_}
 use lib.ListN.{length, length-set}
+use Rattle.l1.specs.Sets.{reading, writing, word}
+use Rattle.l1.proofs.NodeSums.{work-of, uses-of}
 use Rattle.routine.proofs.Standing.{is-headed}
-use Rattle.checker.proofs.TypeTurn.{Passed, faulty, passed, all-passed}
+use Rattle.checker.proofs.TypeTurn.{Passed, its-fault, faulty, passed, all-passed}
+use Rattle.checker.proofs.Counting.{workTo, wordTo, arg-small, work-turn, word-turn, work-all, word-all}
 use Rattle.checker.proofs.check_nodes.Statement.{statement}
 use Rattle.checker.proofs.check_nodes.Tie as tie
 
 abbrev Inv-loop : tie.InvT-loop
-Inv-loop b types₀ n m i₀ types i = (i ≤ n) × (length types ≡ length types₀) × ((j : ℕ) → j < i → Passed b types j)
+Inv-loop b mask types₀ n m working₀ reads₀ writes₀ i₀ types working reads writes i =
+    (i ≤ n) × (length types ≡ length types₀) × ((j : ℕ) → j < i → Passed b types j)
+    × (working ≤ i) × (working ≡ workTo b i) × (reads ≡ wordTo reading b i) × (writes ≡ wordTo writing b i)
 
 abbrev μ-loop : tie.MeasureT-loop
-μ-loop b types₀ n m i₀ types i = n - i
+μ-loop b mask types₀ n m working₀ reads₀ writes₀ i₀ types working reads writes i = n - i
+
+starts : tie.Need-loop-holds Inv-loop μ-loop
+unfolding work-of uses-of word
+starts c = (omega arith, refl, (λ j l. absurd (omega arith)), omega arith, refl, refl, refl)
+
+-- the node that a turn reads, and the loop's head
+abbrev at-node : tie.After-type-of Inv-loop μ-loop → tie.After-node-at Inv-loop μ-loop
+at-node y = y .before .before .before .before .before .before
+
+abbrev at-head : tie.After-node-at Inv-loop μ-loop → tie.At-loop Inv-loop μ-loop
+at-head t = t .before .before
+
+arg-fits : (y : tie.After-type-of Inv-loop μ-loop) → at-node y .node-at .result .arg < 64
+arg-fits y =
+    let e = y .before .before .before in let t = at-node y in let h = at-head t in let p = h .before .before .before .pre in
+    let l = t .before .loop-test .taken in
+    let q = its-fault _ (p .0) (p .3) (h .loop .inv .2) l (t .node-at .ensures) (e .before .node-fault .ensures) in
+    arg-small (p .0) l (t .node-at .ensures) (sym q ∙ e .if1 .left)
+
+again : tie.Need-loop-again Inv-loop μ-loop
+again c =
+    let y = c .before .before .before in let e = y .before .before .before in let t = at-node y in let h = at-head t in
+    let p = h .before .before .before .pre in
+    let l = t .before .loop-test .taken in
+    let q = t .node-at .ensures in
+    let (few, long, past, small, w, r, s) = h .loop .inv in (
+      omega arith,
+      simp length-set (omega arith),
+      passed _ (p .0) (p .3) past l q (e .before .node-fault .ensures) (e .if1 .left) (rw (y .type-of .ensures, y .before .entry .ensures))
+          (omega (arith, p .1)),
+      omega (arith, c .before .before .work-of .ensures .1),
+      work-turn (p .0) l q w (c .before .before .work-of .ensures .0),
+      word-turn (p .0) l q reading r (c .before .reads-of .ensures),
+      word-turn (p .0) l q writing s (c .writes-of .ensures),
+    )
+
+ends : tie.Need-returns-2 Inv-loop μ-loop
+ends c =
+    let h = c .before .before in let p = h .before .before .before .pre in let l = c .before .loop-test .left in
+    let (few, long, past, small, w, r, s) = h .loop .inv in
+    let (typed, e) = all-passed _ (p .0) (p .3) past l in (
+      typed,
+      record {
+        its-type = e;
+        its-working = w ∙ work-all (p .0) l;
+        its-reads = r ∙ word-all (p .0) l reading;
+        its-writes = s ∙ word-all (p .0) l writing;
+      },
+    )
 
 pub check-nodes-spec : {M : Type 1} → statement M
 check-nodes-spec =
@@ -20,27 +75,24 @@ check-nodes-spec =
     (tie.spec
     Inv-loop
     μ-loop
-    (λ c. (omega arith, refl, λ j l. absurd (omega arith)))
+    starts
     (λ c κs. let o = c .before .before .before .before .pre .0 in omega (arith, is-headed (o .opens) (o .holds)))
-    (λ c κs. tt)
+    (λ c κs. omega arith)
     (λ c. let o = c .before .before .before .before .before .before .before .before .pre .0 in omega (arith, is-headed (o .opens) (o .holds)))
     (λ c. omega arith)
-    (λ c. let t = c .before .before .before in let h = t .before .before in
-    faulty (h .before .before .before .pre .0) (h .loop .inv .2) (t .before .loop-test .taken) (t .node-at .ensures) (c .before .node-fault .ensures)
-    (c .if1 .taken))
+    (λ c. let t = c .before .before .before in let h = at-head t in let p = h .before .before .before .pre in
+    faulty _ (p .0) (p .3) (h .loop .inv .2) (t .before .loop-test .taken) (t .node-at .ensures) (c .before .node-fault .ensures) (c .if1 .taken))
+    (λ c κs. omega arith)
     (λ c κs. tt)
+    (λ c. omega (arith, at-head (at-node c) .before .before .before .pre .1))
     (λ c κs. tt)
-    (λ c. omega (arith, c .before .before .before .before .before .before .before .before .before .before .before .pre .1))
-    (λ c. omega arith)
-    (λ c. omega arith)
-    (λ c. let e = c .before .before .before in let t = e .before .before .before in let h = t .before .before in (
-      omega arith,
-      simp length-set (omega arith),
-      passed (h .before .before .before .pre .0) (h .loop .inv .2) (t .before .loop-test .taken) (t .node-at .ensures)
-          (e .before .node-fault .ensures) (e .if1 .left) (rw (c .type-of .ensures, c .before .entry .ensures))
-          (omega (arith, h .before .before .before .pre .1)),
-    ))
+    (λ c. let h = at-head (at-node (c .before)) in omega (arith, c .work-of .ensures .1, h .loop .inv .3, h .loop .inv .0))
+    (λ c κs. arg-fits (c .before))
+    (λ c κs. arg-fits (c .before .before))
+    (λ c. let h = at-head (at-node (c .before .before .before)) in omega (arith, at-node (c .before .before .before) .before .loop-test .taken))
+    (λ c. let t = at-node (c .before .before .before) in omega (arith, t .before .loop-test .taken))
+    again
     (λ c. let o = c .before .before .before .before .pre .0 in omega (arith, is-headed (o .opens) (o .holds)))
-    (λ c. let (o, room) = c .before .before .before .before .before .pre in omega (arith, is-headed (o .opens) (o .holds)))
+    (λ c. let o = c .before .before .before .before .before .pre .0 in omega (arith, is-headed (o .opens) (o .holds)))
     (λ c. omega arith)
-    (λ c. let h = c .before .before in all-passed (h .before .before .before .pre .0) (h .loop .inv .2) (c .before .loop-test .left)))
+    ends)

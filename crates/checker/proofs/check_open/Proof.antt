@@ -13,9 +13,8 @@ check-open-spec =
     (λ c. search needs)
     (λ c κs. let w = c .before in refused-number (rw (w .c .given .1) at (w .before .before .types .ensures)))
     (λ c. search needs)
-    (λ c κs. let w = c .before in let s = w .before .before in (s .before .before .pre, (rw (w .t .given .1) at (s .types .ensures)) .0))
     (λ c κs. search needs)
     (λ c. let w = c .before .before in let s = w .before .before in
     rw (c .refusal-of .ensures) (faults (s .before .before .pre) (rw (w .c .given .1) at (s .types .ensures))))
-    (λ c. let w = c .before .before .before in let s = w .before .before in
-    accepts (s .before .before .pre) (rw (w .t .given .1) at (s .types .ensures)) (c .ty-of .ensures) (c .before .count-up .ensures)))
+    (λ c. let w = c .before .before in let s = w .before .before in
+    accepts (s .before .before .pre) (rw (w .s .given .1) at (s .types .ensures)) (c .ty-of .ensures)))

@@ -27,7 +27,7 @@ next : (c : tie.After-node-depth Inv-loop μ-loop)
     (c .node-depth .result ≡ depth (treeAt (h .before .before .args .b .now) (h .loop .i))) × (c .node-depth .result ≤ h .loop .i + 1)
 next c =
     let h = at-node c in
-    next-depth _ (h .loop .depths) (h .loop .i) _ (h .loop .inv .2) (h .before .before .pre .2 (h .loop .i) (omega arith)) (c .node-depth .ensures)
+    next-depth _ (h .loop .depths) (h .loop .i) _ (omega arith) (h .loop .inv .2) (h .before .before .pre .2 (h .loop .i) (omega arith)) (c .node-depth .ensures)
 
 again : tie.Need-loop-again Inv-loop μ-loop
 again c =
@@ -45,7 +45,7 @@ depth-of-spec =
     μ-loop
     (λ c. (omega arith, refl, λ j l. absurd (omega arith)))
     (λ c. omega arith)
-    (λ c κs. omega arith)
+    (λ c κs. (omega arith, omega arith))
     (λ c. omega (arith, next c))
     (λ c. omega arith)
     (λ c. omega arith)

@@ -1,7 +1,7 @@
--- `opener::entry` meets its contract: past the end it answers what a list has there.
+-- `opener::entry` meets its contract: what is left under the mask is no larger than the mask.
 use borrow.Author.Needs.{needs}
 use native.Mathlib.Omega.{arith}
-use Rattle.routine.proofs.Past.{past}
+use lib.Bits.{and-le-r}
 use Rattle.opener.proofs.entry.Statement.{statement}
 use Rattle.opener.proofs.entry.Tie as tie
 
@@ -9,7 +9,8 @@ pub entry-spec : {M : Type 1} → statement M
 entry-spec =
     tie.close
     (tie.spec
-    (λ c. search needs)
-    (λ c. search needs)
-    (λ c. search needs)
-    (λ c. past (c .before .args .table .now) (c .before .args .j) 0 (omega arith)))
+    (λ c κs. search needs)
+    (λ c. record { fits = omega (arith, and-le-r (c .wide .result) (c .before .before .args .mask)) })
+    (λ c. omega (arith, and-le-r (c .before .wide .result) (c .before .before .before .args .mask)))
+    (λ c κs. search needs)
+    (λ c. (rw (c .wide2 .ensures .0, c .before .before .wide .ensures .0), omega arith)))

@@ -1,4 +1,4 @@
--- `opener::grown` meets its contract: each arm is the definition's clause for its shape.
+-- `opener::grown` meets its contract: each number is what its call ensures.
 use borrow.Author.Needs.{needs}
 use Rattle.opener.proofs.grown.Statement.{statement}
 use Rattle.opener.proofs.grown.Tie as tie
@@ -7,21 +7,8 @@ pub grown-spec : {M : Type 1} → statement M
 grown-spec =
     tie.close
     (tie.spec
+    (λ c κs. search needs)
     (λ c. search needs)
     (λ c. search needs)
-    (λ c. search needs)
-    (λ c. search needs)
-    (λ c. search needs)
-    (λ c. search needs)
-    (λ c. search needs)
-    (λ c. search needs)
-    (λ c. search needs)
-    (λ c. search needs)
-    (λ c. search needs)
-    (λ c. search needs)
-    (λ c. search needs)
-    (λ c. search needs)
-    (λ c. rw (c .enum-told3 .given .1))
-    (λ c. rw (c .enum-told4 .given .1))
-    (λ c. rw (c .enum-told5 .given .1))
-    (λ c. search needs))
+    (λ c κs. search needs)
+    (λ c. rw (c .pick .ensures .0, c .before .wide .ensures .0)))

@@ -1,27 +1,22 @@
--- `opener::is_placed` meets its contract: each arm is the definition's clause for its shape.
+-- `opener::is_placed` meets its contract: the tests that the arity chooses are those of the form's shape.
 use borrow.Author.Needs.{needs}
+use Rattle.opener.proofs.Arities.{all-stand}
 use Rattle.opener.proofs.is_placed.Statement.{statement}
 use Rattle.opener.proofs.is_placed.Tie as tie
+
+returns : tie.Need-returns
+returns c =
+    let s = c .before in let f = s .before in let a = f .before in let o = a .before .before .args in
+    rw (c .stands3 .ensures, s .stands2 .ensures, f .stands .ensures, a .digit-of .ensures .0, a .before .arity-of .ensures)
+    (all-stand (o .f) (o .i) (o .x) (o .y) (o .z) (o .q) (o .r))
 
 pub is-placed-spec : {M : Type 1} → statement M
 is-placed-spec =
     tie.close
     (tie.spec
-    (λ c. search needs)
-    (λ c. search needs)
-    (λ c. search needs)
-    (λ c. search needs)
-    (λ c. search needs)
-    (λ c. search needs)
-    (λ c. search needs)
-    (λ c. search needs)
-    (λ c. search needs)
-    (λ c. search needs)
-    (λ c. search needs)
-    (λ c. search needs)
-    (λ c. rw (c .enum-told .given .1))
-    (λ c. rw (c .enum-told2 .given .1))
-    (λ c. rw (c .enum-told3 .given .1))
-    (λ c. rw (c .enum-told4 .given .1))
-    (λ c. rw (c .enum-told5 .given .1))
-    (λ c. search needs))
+    (λ c κs. search needs)
+    (λ c κs. search needs)
+    (λ c κs. search needs)
+    (λ c κs. search needs)
+    (λ c κs. search needs)
+    returns)

@@ -7,18 +7,23 @@ use lib.ListN.{length, length-set}
 use Rattle.l1.specs.Measures.{size}
 use Rattle.stored.specs.Layout.{start, TreeAt}
 use Rattle.stored.specs.Reader.{treeAt}
+use Rattle.routine.specs.Masks.{Covers}
 use Rattle.opener.proofs.LayoutTurn.{Passed, next-stands, next-breaks, next-passed, whole, forest}
 use Rattle.opener.proofs.lay.Statement.{statement}
 use Rattle.opener.proofs.lay.Tie as tie
 
 abbrev Inv-loop : tie.InvT-loop
-Inv-loop b n sizes₀ i₀ sizes i = (i ≤ n) × (length sizes ≡ length sizes₀) × ((j : ℕ) → j < i → Passed b sizes j)
+Inv-loop b n mask sizes₀ i₀ sizes i = (i ≤ n) × (length sizes ≡ length sizes₀) × ((j : ℕ) → j < i → Passed b sizes j)
 
 abbrev μ-loop : tie.MeasureT-loop
-μ-loop b n sizes₀ i₀ sizes i = n - i
+μ-loop b n mask sizes₀ i₀ sizes i = n - i
 
 abbrev at-node : tie.After-span Inv-loop μ-loop → tie.At-loop Inv-loop μ-loop
 at-node c = c .before .before .before
+
+-- the mask covers the nodes passed
+low : (h : tie.At-loop Inv-loop μ-loop) → h .loop .i ≤ h .before .before .before .args .n → Covers (h .before .before .before .args .mask) (h .loop .i)
+low h l j k = h .before .before .before .pre .4 j (omega arith)
 
 -- the node at which the layout breaks
 breaks : tie.Need-returns Inv-loop μ-loop
@@ -27,7 +32,7 @@ breaks c =
     let byte = h .before .before .shared-slice-known .given (start (h .loop .i) + 1) in (
       omega arith,
       (λ j l. h .loop .inv .2 j l .stands),
-      next-breaks _ (h .loop .sizes) (h .loop .i) (h .loop .inv .2) _ (omega arith) (c .before .span .ensures) (c .if1 .taken),
+      next-breaks _ (h .loop .sizes) (h .loop .i) _ (h .loop .inv .2) (low h (omega arith)) _ (omega arith) (c .before .span .ensures) (c .if1 .taken),
     )
 
 -- the next node, where it keeps the layout
@@ -39,14 +44,14 @@ next : (c : tie.Else1 Inv-loop μ-loop)
     × (c .before .span .result ≤ h .loop .i + 1)
 next c =
     let h = at-node (c .before) in
-    next-stands _ (h .loop .sizes) (h .loop .i) (h .loop .inv .2) _ (c .before .span .ensures) (c .if1 .left)
+    next-stands _ (h .loop .sizes) (h .loop .i) _ (h .loop .inv .2) (low h (omega arith)) _ (c .before .span .ensures) (c .if1 .left)
 
 again : tie.Need-loop-again Inv-loop μ-loop
 again c =
     let h = at-node (c .before) in (
       omega arith,
       simp length-set (omega arith),
-      next-passed _ (h .loop .sizes) (h .loop .i) (h .loop .inv .2) _ (omega arith) (next c .0) (next c .1),
+      next-passed _ (h .loop .sizes) (h .loop .i) _ (h .loop .inv .2) (low h (omega arith)) _ (omega arith) (next c .0) (next c .1),
     )
 
 abbrev at-end : tie.After-wide Inv-loop μ-loop → tie.At-loop Inv-loop μ-loop
@@ -69,7 +74,7 @@ lay-spec =
     Inv-loop
     μ-loop
     (λ c. (omega arith, refl, λ j l. absurd (omega arith)))
-    (λ c κs. omega arith)
+    (λ c κs. (omega arith, omega arith, omega arith))
     (λ c. omega arith)
     (λ c. at-node (c .before) .loop .inv .1)
     breaks

@@ -1,0 +1,12 @@
+-- The masks of the two sizes of tables.
+use Prim.Native.Nat.{ℕ, _≤_}
+use native.Mathlib.Omega.{arith}
+use mathlib.Core.Path.{_∙_}
+use lib.Bits.{and-mask}
+use Rattle.routine.specs.Masks.{Covers}
+
+pub covers-small : {n : ℕ} → n ≤ 256 → Covers 255 n
+covers-small h j l = and-mask j 8 ∙ omega arith
+
+pub covers-large : {n : ℕ} → n ≤ 4096 → Covers 4095 n
+covers-large h j l = and-mask j 12 ∙ omega arith
