@@ -8,7 +8,6 @@ use mathlib.Core.List.{List, _∷_}
 use lib.ListN.{length, getD, set, length-set}
 use lib.Seq.{getD-set-same, getD-set-other}
 use borrow.Author.Count.{below-more}
-use borrow.Author.Tests.{eqb-true, eqb-false}
 use Rattle.l1.specs.Syntax.{Expr, v-int, v-bool, v-skip, Ty}
 use Rattle.l1.specs.Store.{Store}
 use Rattle.l1.specs.Typing.{_⊢_∶_}
@@ -24,7 +23,7 @@ use Rattle.stored.proofs.Subtrees.{size-fits}
 use Rattle.routine.specs.Open.{rootOf, Runnable}
 use Rattle.routine.proofs.Standing.{root-depth, nodes-stand}
 use Rattle.machine.specs.Contexts.{Context, plug, left-to-search, all-left}
-use Rattle.machine.specs.State.{exprOf, Seen, searchOf, takesOf, isLast, belowOf, contextOf, Held, redex, Stands, searchAt, blank, stack, after, HeldBy, growsOf, isOver, overAt, written, Within, ruleNo, madeBy, turnedBy, lastRule, meaning, LastStep, last-step, Moment, outcomeOf, endOf}
+use Rattle.machine.specs.State.{exprOf, Seen, searchOf, takesOf, contextOf, Held, redex, Stands, searchAt, blank, stack, after, HeldBy, growsOf, isOver, overAt, written, Within, ruleNo, madeBy, turnedBy, lastRule, meaning, LastStep, last-step, Moment, outcomeOf, endOf}
 use Rattle.machine.specs.Acts.{Went, searched, worked, over, Stepped}
 use Rattle.machine.specs.declared.Work.{Work}
 use Rattle.machine.specs.declared.Work.the-variants as w
@@ -352,25 +351,6 @@ module _ {b : List ℕ} {s₀ s : Store} {p : Pending} {m : Machine} (i : Moment
           let fits = rw grows at (search-fits (next-moment refl)) in
           let before = search-split b (p .frames) at (m .work) (p .height) (t .parts) in
           rw grows (falls b (p .frames) at room (m .steps) before fits (g .went) (g .steps) l n)
-
--- what the test for the last work tells, and the places below the act
-pub last-takes : (y : Work) (h : ℕ) → isLast y h ≡ true → h < takesOf y
-last-takes (w.Node i) h e = absurd (let z : _≡_ {A = ℕ} 0 1 = cc in omega arith)
-last-takes (w.Int n) h e = omega (arith, eqb-true h 0 e)
-last-takes (w.Bool t) h e = omega (arith, eqb-true h 0 e)
-last-takes w.Skip h e = omega (arith, eqb-true h 0 e)
-
-pub not-last-takes : (y : Work) (h : ℕ) → isLast y h ≡ false → takesOf y ≤ h
-not-last-takes (w.Node i) h e = omega arith
-not-last-takes (w.Int n) h e = omega (arith, eqb-false h 0 e)
-not-last-takes (w.Bool t) h e = omega (arith, eqb-false h 0 e)
-not-last-takes w.Skip h e = omega (arith, eqb-false h 0 e)
-
-pub below-takes : (y : Work) (h : ℕ) → takesOf y ≤ h → belowOf y h + takesOf y ≡ h
-below-takes (w.Node i) h l = omega arith
-below-takes (w.Int n) h l = omega arith
-below-takes (w.Bool t) h l = omega arith
-below-takes w.Skip h l = omega arith
 
 pub grows-by-one : (d : Act) → growsOf d ≤ 1
 grows-by-one a.Push = omega arith

@@ -1,5 +1,5 @@
 -- What the machine's values mean, and the moment of a run that its state stands for.
-use Prim.Native.Nat.{ℕ, zero, suc, _+_, _-_, _*_, _<_, _≤_}
+use Prim.Native.Nat.{ℕ, zero, suc, _+_, _*_, _<_, _≤_}
 use mathlib.Core.Path.{_≡_}
 use mathlib.Core.Logic.{_⊎_}
 use mathlib.Core.List.{List, [], _∷_}
@@ -54,19 +54,6 @@ Busy Seq = Unit
 Busy While = Unit
 Busy Unknown = ⊥
 
-abbrev pub isDeref : Form → Bool
-isDeref Integer = false
-isDeref Boolean = false
-isDeref Plus = false
-isDeref Geq = false
-isDeref If = false
-isDeref Assign = false
-isDeref Deref = true
-isDeref Skip = false
-isDeref Seq = false
-isDeref While = false
-isDeref Unknown = false
-
 -- a work that is a node is a node of the routine and no literal
 abbrev pub Seen : List ℕ → Work → Type 0
 Seen b (w.Node i) = (i < count b) × Busy (formOf (kind b i))
@@ -86,20 +73,6 @@ takesOf (w.Node i) = 0
 takesOf (w.Int n) = 1
 takesOf (w.Bool t) = 1
 takesOf w.Skip = 1
-
--- a value with no place to stand in, of h places
-abbrev pub isLast : Work → ℕ → Bool
-isLast (w.Node i) h = false
-isLast (w.Int n) h = eqb h 0
-isLast (w.Bool t) h = eqb h 0
-isLast w.Skip h = eqb h 0
-
--- the places below the next act, of h places
-abbrev pub belowOf : Work → ℕ → ℕ
-belowOf (w.Node i) h = h
-belowOf (w.Int n) h = h - 1
-belowOf (w.Bool t) h = h - 1
-belowOf w.Skip h = h - 1
 
 abbrev pub nodeOf : Work → ℕ
 nodeOf (w.Node i) = i

@@ -17,8 +17,8 @@ ghost use Rattle.stored.specs.Refusals.{locations, count, env};
 ghost use Rattle.routine.specs.Forms.{formOf};
 ghost use Rattle.routine.specs.Open.{rootOf, Runnable};
 ghost use Rattle.machine.specs.Contexts.{fill, left-to-search};
-ghost use Rattle.machine.specs.State.{exprOf, Busy, isDeref, Seen, takesOf, isLast, belowOf, nodeOf, numberOf, truthOf, contextOf, Held, redex, Stands, searchAt, growsOf, isOver, overAt, written, Within, madeBy, turnedBy, lastRule, endOf, outcomeOf, meaning, Moment};
-ghost use Rattle.machine.specs.Acts.{Went, Stepped, Loaded, Gone, Sought, Summed};
+ghost use Rattle.machine.specs.State.{exprOf, Busy, Seen, takesOf, nodeOf, numberOf, truthOf, contextOf, Held, redex, Stands, searchAt, growsOf, isOver, overAt, written, Within, madeBy, turnedBy, lastRule, endOf, outcomeOf, meaning, Moment};
+ghost use Rattle.machine.specs.Acts.{Went, Stepped, Loaded, Gone, Summed};
 use routine::Form;
 use sums::Sum;
 
@@ -140,31 +140,6 @@ fn takes(x: Work) -> usize
         Work::Int(_) => 1,
         Work::Bool(_) => 1,
         Work::Skip => 1,
-    }
-}
-
-// Whether the work is a value with no place to stand in.
-fn is_last(x: Work, h: usize) -> bool
-    ensures { λ r. ⌜ r ≡ isLast x h ⌝ }
-{
-    match x {
-        Work::Node(_) => false,
-        Work::Int(_) => h == 0,
-        Work::Bool(_) => h == 0,
-        Work::Skip => h == 0,
-    }
-}
-
-// How many of the h places stand below the next act.
-fn below(x: Work, h: usize) -> usize
-    requires { ⌜ takesOf x ≤ h ⌝ }
-    ensures { λ r. ⌜ r ≡ belowOf x h ⌝ }
-{
-    match x {
-        Work::Node(_) => h,
-        Work::Int(_) => h - 1,
-        Work::Bool(_) => h - 1,
-        Work::Skip => h - 1,
     }
 }
 
@@ -300,24 +275,6 @@ fn load(b: &[u8], c: u32) -> Work
     }
 }
 
-fn is_deref(f: Form) -> bool
-    ensures { λ r. ⌜ r ≡ isDeref f ⌝ }
-{
-    match f {
-        Form::Integer => false,
-        Form::Boolean => false,
-        Form::Plus => false,
-        Form::Geq => false,
-        Form::If => false,
-        Form::Assign => false,
-        Form::Deref => true,
-        Form::Skip => false,
-        Form::Seq => false,
-        Form::While => false,
-        Form::Unknown => false,
-    }
-}
-
 // The work goes to the node c, under the place that is pushed.
 fn down(b: &[u8], c: u32, top: Place, rule: u64) -> Turn
     requires { ⌜ Runnable (now b) × (c < count (now b)) ⌝ }
@@ -344,24 +301,6 @@ fn leap(b: &[u8], c: u32, rule: u64) -> Turn
     }
 }
 
-// The search goes to the operand c, and reads it at once where it is a dereference: the step that the search would come to next.
-fn seek(b: &[u8], s: &[i32], c: u32, top: Place) -> Turn
-    requires { ⌜ Runnable (now b) × (c < count (now b)) × (locations (now b) ≤ length (now s)) × ((T : Ty) × (env (now b) ⊢ treeAt (now b) c ∶ T)) ⌝ }
-    ensures { λ r. ⌜ Sought (now (b .entry)) (now (s .entry)) c top r ⌝ }
-{
-    if is_deref(routine::form_at(b, c)) {
-        let l = routine::wide(routine::arg_at(b, c));
-        Turn {
-            work: Work::Int(s[l]),
-            act: Act::Push,
-            top: top,
-            rule: DEREF,
-        }
-    } else {
-        down(b, c, top, SEARCH)
-    }
-}
-
 // The work is a value, and no place is pushed.
 fn comes_to(x: Work, act: Act, rule: u64) -> Turn
     ensures { λ r. ⌜ (r .work ≡ x) × (r .act ≡ act) × (r .top ≡ Place.Blank) × (r .rule ≡ rule) ⌝ }
@@ -380,12 +319,12 @@ fn at_node(b: &[u8], s: &[i32], i: u32) -> Turn
     ensures { λ r. ⌜ Went (now (b .entry)) (2 * size (treeAt (now (b .entry)) i)) (treeAt (now (b .entry)) i) (now (s .entry)) (r .work) (r .act) (r .top) (r .rule) ⌝ }
 {
     match routine::form_at(b, i) {
-        Form::Plus => seek(b, s, routine::first_at(b, i), Place::PlusLeft(i)),
-        Form::Geq => seek(b, s, routine::first_at(b, i), Place::GeqLeft(i)),
+        Form::Plus => down(b, routine::first_at(b, i), Place::PlusLeft(i), SEARCH),
+        Form::Geq => down(b, routine::first_at(b, i), Place::GeqLeft(i), SEARCH),
         Form::If => down(b, routine::first_at(b, i), Place::Test(i), SEARCH),
         Form::Assign => {
             let l = short(routine::arg_at(b, i));
-            seek(b, s, routine::first_at(b, i), Place::Store(l))
+            down(b, routine::first_at(b, i), Place::Store(l), SEARCH)
         }
         Form::Seq => {
             let j = routine::second_at(b, i);
@@ -414,18 +353,18 @@ fn plus_at(i: u32, l: i32, v: i32) -> Turn
 }
 
 // A value in the place on top.
-fn at_value(b: &[u8], s: &[i32], f: Place, x: Work) -> Turn
-    requires { ⌜ Runnable (now b) × (takesOf x ≡ 1) × Held (now b) f × (locations (now b) ≤ length (now s)) × ((T : Ty) × (env (now b) ⊢ fill (contextOf (now b) f) (exprOf (now b) x) ∶ T)) ⌝ }
-    ensures { λ r. ⌜ Went (now (b .entry)) (left-to-search (contextOf (now (b .entry)) f)) (fill (contextOf (now (b .entry)) f) (exprOf (now (b .entry)) x)) (now (s .entry)) (r .work) (r .act) (r .top) (r .rule) ⌝ }
+fn at_value(b: &[u8], f: Place, x: Work) -> Turn
+    requires { ⌜ Runnable (now b) × (takesOf x ≡ 1) × Held (now b) f × ((T : Ty) × (env (now b) ⊢ fill (contextOf (now b) f) (exprOf (now b) x) ∶ T)) ⌝ }
+    ensures { λ r. ⌜ ((s : Store) → locations (now (b .entry)) ≤ length s → Went (now (b .entry)) (left-to-search (contextOf (now (b .entry)) f)) (fill (contextOf (now (b .entry)) f) (exprOf (now (b .entry)) x)) s (r .work) (r .act) (r .top) (r .rule)) ⌝ }
 {
     match f {
         Place::PlusLeft(i) => {
             let v = number(x);
-            seek(b, s, routine::second_at(b, i), Place::PlusRight(i, v))
+            down(b, routine::second_at(b, i), Place::PlusRight(i, v), SEARCH)
         }
         Place::GeqLeft(i) => {
             let v = number(x);
-            seek(b, s, routine::second_at(b, i), Place::GeqRight(i, v))
+            down(b, routine::second_at(b, i), Place::GeqRight(i, v), SEARCH)
         }
         Place::PlusRight(i, l) => plus_at(i, l, number(x)),
         Place::GeqRight(_, l) => comes_to(Work::Bool(sums::geq(l, number(x))), Act::Rest, GEQ),
@@ -460,7 +399,7 @@ fn act_at(b: &[u8], s: &[i32], f: Place, x: Work) -> Turn
     if takes(x) == 0 {
         at_node(b, s, node_of(x))
     } else {
-        at_value(b, s, f, x)
+        at_value(b, f, x)
     }
 }
 
@@ -529,10 +468,11 @@ pub fn go_on(b: &[u8], pending: Pending, machine: Machine, s: &mut [i32], limit:
     let out = loop {
         let x = m.work;
         let h = p.height;
-        if is_last(x, h) {
+        let take = takes(x);
+        if h < take {
             break end_of(x);
         }
-        let at = below(x, h);
+        let at = h - take;
         let frame = p.frames[at];
         let place = frame.place;
         let next = m.step(place, b, s);

@@ -8,7 +8,7 @@ use lib.ListN.{length}
 use denote.Ref.{now}
 use Rattle.l1.specs.Store.{Store}
 use Rattle.machine.specs.State.{takesOf, isOver, Moment}
-use Rattle.machine.proofs.Turns.{left, height-fits, loops-fit, keeps-length, ends-at-value, ActAt, may-step, in-store, ends-at-overflow, ends-at-fuel, next-moment, less-left, last-takes, not-last-takes, below-takes, grows-by-one}
+use Rattle.machine.proofs.Turns.{left, height-fits, loops-fit, keeps-length, ends-at-value, ActAt, may-step, in-store, ends-at-overflow, ends-at-fuel, next-moment, less-left, grows-by-one}
 use Rattle.machine.proofs.go_on.Statement.{statement}
 use Rattle.machine.proofs.go_on.Tie as tie
 
@@ -26,22 +26,16 @@ here c = c .loop .inv .0 _ (c .before .before .pre .2 .1)
 keeps-store : (c : tie.At-loop Inv-loop μ-loop) → length (c .loop .s) ≡ length (now (c .before .before .args .s))
 keeps-store c = keeps-length (here c) ∙ sym (keeps-length (c .before .before .pre .2 .1))
 
--- a value with a place to stand in, or a node
-room : (c : tie.Else1 Inv-loop μ-loop) → takesOf (c .before .before .loop .m .work) ≤ c .before .before .loop .p .height
-room c = not-last-takes (c .before .before .loop .m .work) (c .before .before .loop .p .height) (sym (c .before .is-last .ensures) ∙ c .if1 .left)
-
 -- the places that stand below the act
-abbrev at : tie.After-below Inv-loop μ-loop → ℕ
-at c = c .below .result
+abbrev at : tie.After-takes Inv-loop μ-loop → ℕ
+at c = c .before .loop .p .height - c .takes .result
 
-parts : (c : tie.After-below Inv-loop μ-loop)
-    → at c + takesOf (c .before .before .before .loop .m .work) ≡ c .before .before .before .loop .p .height
-parts c = let l = c .before .before .before .loop in
-    let e = below-takes (l .m .work) (l .p .height) (room (c .before)) in omega (arith, c .below .ensures)
+parts : (c : tie.Else1 Inv-loop μ-loop) → at (c .before) + takesOf (c .before .before .loop .m .work) ≡ c .before .before .loop .p .height
+parts c = omega (arith, c .before .takes .ensures)
 
 -- from the act back to the loop's head
 abbrev head : tie.After-step Inv-loop μ-loop → tie.At-loop Inv-loop μ-loop
-head c = c .before .before .before .before .before .before
+head c = c .before .before .before .before .before
 
 act : (c : tie.After-step Inv-loop μ-loop)
     → ActAt
@@ -49,7 +43,7 @@ act : (c : tie.After-step Inv-loop μ-loop)
     (head c .loop .s)
     (head c .loop .p)
     (head c .loop .m)
-    (at (c .before .before .before))
+    (at (c .before .before .before .before))
     (c .step .result)
 act c = record { parts = parts (c .before .before .before); stepped = c .step .ensures }
 
@@ -62,15 +56,15 @@ not-over c = let e = c .before .before .before in sym (e .before .is-over .ensur
 
 step-requires : tie.Need-step-requires Inv-loop μ-loop
 step-requires c κs =
-    let l = c .before .before .before .before .before in
+    let l = c .before .before .before .before in
     let few = l .before .before .pre .0 in
     let low = l .loop .inv .1 in
-    (may-step (here l) (at (c .before .before)) (parts (c .before .before)), (omega arith, omega (arith, loops-fit (here l))))
+    (may-step (here l) (at (c .before .before .before)) (parts (c .before .before)), (omega arith, omega (arith, loops-fit (here l))))
 
 height-grows : tie.Need-add-p Inv-loop μ-loop
 height-grows c =
     let t = turn (c .before .before .before .before) in
-    omega (arith, height-fits (here (head t)), parts (t .before .before .before), grows-by-one (t .step .result .act), c .grows .ensures)
+    omega (arith, height-fits (here (head t)), grows-by-one (t .step .result .act), c .grows .ensures)
 
 loop-less : tie.Need-loop-less Inv-loop μ-loop
 loop-less c =
@@ -87,7 +81,7 @@ loop-again c =
 at-value : tie.Need-returns Inv-loop μ-loop
 at-value c z i =
     let v = c .before .before .before .loop .inv in
-    (v .0 z i, ends-at-value (v .0 z i) (v .1) (c .end-of .ensures) (last-takes (c .before .before .before .loop .m .work) (c .before .before .before .loop .p .height) (sym (c .before .before .is-last .ensures) ∙ c .before .if1 .taken)))
+    (v .0 z i, ends-at-value (v .0 z i) (v .1) (c .end-of .ensures) (omega (arith, c .before .before .takes .ensures)))
 
 at-overflow : tie.Need-returns-2 Inv-loop μ-loop
 at-overflow c z i =
@@ -111,15 +105,14 @@ go-on-spec =
     (λ c. (λ z i. i, c .before .pre .1))
     (λ c κs. tt)
     (λ c κs. tt)
-    (λ c κs. room c)
-    (λ c. omega (arith, height-fits (here (c .before .before .before)), parts c))
-    (λ c. omega (arith, height-fits (here (c .before .before .before)), parts c))
+    (λ c. omega (arith, height-fits (here (c .before .before))))
+    (λ c. omega (arith, height-fits (here (c .before .before))))
     step-requires
     (λ c κs. tt)
     (λ c κs. tt)
     (λ c κs. let t = turn (c .before) in in-store (here (head t)) (act t))
-    (λ c. let t = turn (c .before .before .before) in omega (arith, height-fits (here (head t)), parts (t .before .before .before)))
-    (λ c. let t = turn (c .before .before .before) in omega (arith, height-fits (here (head t)), parts (t .before .before .before)))
+    (λ c. omega (arith, height-fits (here (head (turn (c .before .before .before))))))
+    (λ c. omega (arith, height-fits (here (head (turn (c .before .before .before))))))
     (λ c κs. tt)
     height-grows
     loop-less
