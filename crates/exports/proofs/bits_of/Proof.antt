@@ -10,15 +10,13 @@ use mir.Syntax.{w32, w64}
 use mir.Val.{Fits, SFits, toZ, ofZ}
 use mir.Facts.{toZ-ofZ, sfits-widen}
 use borrow.Author.Tests.{ltb-true, le-ltb}
+use Rattle.sums.proofs.Widened.{widened}
 use Rattle.exports.proofs.bits_of.Statement.{statement}
 use Rattle.exports.proofs.bits_of.Tie as tie
 
 -- the number as the code has it
 abbrev wide : ℤ → ℤ
 wide z = toZ w64 (ofZ w64 (toZ w32 (ofZ w32 z)))
-
-widened : {z : ℤ} → SFits w32 z → wide z ≡ z
-widened f = ap (λ (x : ℤ). toZ w64 (ofZ w64 x)) (toZ-ofZ f) ∙ toZ-ofZ (sfits-widen {w = w32} {w′ = w64} tt f)
 
 raised : (z : ℤ) → SFits w32 z → ltZ z (pos 0) ≡ true → z +ℤ pos 4294967296 ≡ pos (ofZ w32 z)
 raised (pos n) f e = absurd (omega (arith, ltb-true n 0 e))

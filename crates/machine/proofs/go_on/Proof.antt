@@ -54,6 +54,9 @@ turn c = c .before .before .before .before .before
 not-over : (c : tie.Else3 Inv-loop μ-loop) → isOver (turn c .step .result .act) ≡ false
 not-over c = let e = c .before .before .before in sym (e .before .is-over .ensures) ∙ e .if2 .left
 
+within : (c : tie.Else3 Inv-loop μ-loop) → turn c .step .result .to .steps ≤ head (turn c) .before .before .args .limit
+within c = omega (arith, c .if3 .left)
+
 step-requires : tie.Need-step-requires Inv-loop μ-loop
 step-requires c κs =
     let l = c .before .before .before .before in
@@ -69,13 +72,13 @@ height-grows c =
 loop-less : tie.Need-loop-less Inv-loop μ-loop
 loop-less c =
     let e = c .before .before .before .before in
-    less-left (here (head (turn e))) (act (turn e)) (not-over e) (c .grows .ensures) (e .if3 .left)
+    less-left (here (head (turn e))) (act (turn e)) (not-over e) (c .grows .ensures) (within e)
 
 loop-again : tie.Need-loop-again Inv-loop μ-loop
 loop-again c =
     let e = c .before .before .before .before in
     let v = head (turn e) .loop .inv in
-    (λ z i. next-moment (v .0 z i) (act (turn e)) (not-over e) (c .grows .ensures) (c .before .before .write .ensures), e .if3 .left)
+    (λ z i. next-moment (v .0 z i) (act (turn e)) (not-over e) (c .grows .ensures) (c .before .before .write .ensures), within e)
 
 -- the three ways out
 at-value : tie.Need-returns Inv-loop μ-loop
