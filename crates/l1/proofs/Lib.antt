@@ -1,4 +1,5 @@
 -- The laws of L1, from the leaves up.
+pub mod Clash  -- false is not true
 pub mod Range  -- in range or out of range, and not both
 pub mod Values  -- a value makes no step and no overflow
 pub mod Determinism  -- one step at most
@@ -23,3 +24,4 @@ pub mod TypeUnique  -- one type at most
 pub mod Faults  -- the computed fault of one node
 pub mod Verdict  -- a type, or one refusal at one node
 pub mod Course  -- the course rows marked P are right
+pub mod LongerStore  -- a longer store changes nothing of a run

@@ -13,12 +13,12 @@ use Rattle.machine.specs.Acts.{Loaded}
 use Rattle.machine.specs.declared.Pending.{Pending}
 use Rattle.machine.specs.declared.Machine.{Machine}
 
-first-meaning : (b : List ℕ) (p : Pending) (m : Machine) {root : ℕ} → root + 1 ≡ count b → p .height ≡ 0 → Loaded b root (m .work) → meaning b p m ≡ rootOf b
+pub first-meaning : (b : List ℕ) (p : Pending) (m : Machine) {root : ℕ} → root + 1 ≡ count b → p .height ≡ 0 → Loaded b root (m .work) → meaning b p m ≡ rootOf b
 first-meaning b p m {root} r h l = let q : count b - 1 ≡ root = omega arith in rw (h, q) (l .same)
 
 pub first-moment : {b : List ℕ} {s : Store} {p : Pending} {m : Machine} {root : ℕ} → Runnable b → locations b ≤ length s → root + 1 ≡ count b
-    → (p .height ≡ 0) × (length (p .frames) ≡ 256) → Loaded b root (m .work) × (m .steps ≡ 0) × (m .loops ≡ 0) → Moment b s s p m
-first-moment {b} {s} {p} {m} ok c r (h, n) (l, t, k) = record {
+    → (p .height ≡ 0) × (length (p .frames) ≡ 256) → Loaded b root (m .work) × (m .steps ≡ 0) × (m .loops ≡ 0) × (m .rule ≡ 0) → Moment b s s p m
+first-moment {b} {s} {p} {m} ok c r (h, n) (l, t, k, r₀) = record {
   runnable = ok;
   covered = c;
   run = rw (t, k, first-meaning b p m r h l) stay;

@@ -2,10 +2,11 @@
 use Prim.Native.Nat.{ℕ, _+_, _*_, _≤_, _<_}
 use native.Mathlib.Omega.{arith}
 use mathlib.Core.Path.{_≡_, refl, sym, _∙_, ap, subst}
+use mathlib.Core.Bool.{Bool, true}
 use mathlib.Core.List.{List}
 use lib.IntN.{ℤ}
 use lib.ListN.{length}
-use Rattle.l1.specs.Syntax.{Expr, int, if_then_else_, !_, skip, _⨾_, while_do′_done, Ty}
+use Rattle.l1.specs.Syntax.{Expr, int, bool, if_then_else_, !_, skip, _⨾_, while_do′_done, Ty, tInt}
 use Rattle.l1.specs.Store.{Store, _∈dom_, lookup}
 use Rattle.l1.specs.Steps.{Rule, by-deref, by-while, ⟨_∣_⟩⟶⟨_∣_⟩_, deref, while}
 use Rattle.l1.specs.Typing.{TypeEnv, _⊢_∶_, t-deref}
@@ -15,14 +16,14 @@ use Rattle.stored.specs.Reader.{treeAt}
 use Rattle.stored.specs.Refusals.{locations, count, env}
 use Rattle.stored.specs.Answers.{Headed}
 use Rattle.routine.specs.declared.Form.{Form}
-use Rattle.routine.specs.declared.Form.the-variants.{Deref, While}
+use Rattle.routine.specs.declared.Form.the-variants.{Integer, Boolean, Plus, Geq, If, Assign, Deref, Skip, Seq, While, Unknown}
 use Rattle.routine.specs.Forms.{formOf, make, Before}
 use Rattle.routine.specs.Open.{Runnable}
 use Rattle.routine.proofs.Made.{made, before}
 use Rattle.routine.proofs.Standing.{is-headed, nodes-stand}
 use Rattle.machine.specs.Contexts.{fill, left-to-search}
-use Rattle.machine.specs.State.{exprOf, Busy, Seen, searchOf, nodeOf, contextOf, Held, after, HeldBy, written, Within, ruleNo}
-use Rattle.machine.specs.Acts.{Went, searched, worked, Loaded, Gone}
+use Rattle.machine.specs.State.{exprOf, Busy, isDeref, Seen, searchOf, nodeOf, contextOf, Held, after, HeldBy, written, Within, ruleNo}
+use Rattle.machine.specs.Acts.{Went, searched, worked, Loaded, Gone, Sought, went-down, read-there}
 use Rattle.machine.specs.declared.Work.{Work}
 use Rattle.machine.specs.declared.Work.the-variants as w
 use Rattle.machine.specs.declared.Place.{Place}
@@ -30,6 +31,7 @@ use Rattle.machine.specs.declared.Place.the-variants as p
 use Rattle.machine.specs.declared.Act.{Act}
 use Rattle.machine.specs.declared.Act.the-variants as a
 use Rattle.machine.specs.declared.Turn.{Turn}
+use Rattle.machine.proofs.Stacks.{asks, part-typed, fill-step}
 
 -- the act of a turn
 abbrev pub Turned : List ℕ → ℕ → Expr → Store → Turn → Type 0
@@ -55,10 +57,37 @@ came-to (work, act, top, rule) went = rw (work, act, top, rule) went
 pub came-by : {y y′ : Work} {d d′ : Act} {ρ : ℕ} {t : Turn} → y ≡ y′ → d ≡ d′ → CameTo y d ρ t → CameTo y′ d′ ρ t
 came-by p q (work, act, top, rule) = (work ∙ p, act ∙ q, top, rule)
 
+-- the turn of a work that a place is pushed for, as `under` makes it
+abbrev pub Under : Work → Place → ℕ → Turn → Type 0
+Under y g ρ t = (t .work ≡ y) × (t .act ≡ a.Push) × (t .top ≡ g) × (t .rule ≡ ρ)
+
+pub gone-under : {b : List ℕ} {j ρ : ℕ} {y : Work} {g : Place} {t : Turn} → Loaded b j y → Under y g ρ t → Gone b j a.Push g ρ t
+gone-under {b} {j} loaded (work, act, top, rule) =
+    record { loaded = subst (Loaded b j) (sym work) loaded; act = act; top = top; rule = rule }
+
 -- the same node and place by other names
 pub gone-by : {b : List ℕ} {j j′ ρ : ℕ} {d : Act} {g g′ : Place} {t : Turn}
     → j ≡ j′ → g ≡ g′ → Gone b j d g ρ t → Gone b j′ d g′ ρ t
 gone-by p q gone = record { loaded = rw (← p) (gone .loaded); act = gone .act; top = gone .top ∙ q; rule = gone .rule }
+
+-- the same operand and place by other names
+pub sought-by : {b : List ℕ} {s : Store} {j j′ : ℕ} {g g′ : Place} {t : Turn}
+    → j ≡ j′ → g ≡ g′ → Sought b s j g t → Sought b s j′ g′ t
+sought-by p q (went-down gone) = went-down (gone-by p q gone)
+sought-by {b} p q (read-there tree h work act top rule) = read-there (ap (treeAt b) (sym p) ∙ tree) h work act (top ∙ q) rule
+
+-- an operand that is read where the search finds it
+pub reads-there : {b : List ℕ} {c l : ℕ} {e : Expr} {s : Store} {g : Place} {t : Turn}
+    → e ≡ fill (contextOf b g) (! l) → l ∈dom s → Held b g
+    → t .work ≡ w.Int (lookup s l) → t .act ≡ a.Push → t .top ≡ g → t .rule ≡ 3
+    → Turned b c e s t
+reads-there {b} {l = l} {s = s} {g = g} e h held work act top rule =
+    rw (work, act, top, rule)
+    (worked {r = by-deref} {y = w.Int (lookup s l)} {d = a.Push} {g = g}
+    (subst (λ (x : Expr). ⟨ x ∣ s ⟩⟶⟨ fill (contextOf b g) (int (lookup s l)) ∣ s ⟩ by-deref) (sym e) (fill-step (contextOf b g) (deref h refl)))
+    tt
+    held
+    tt)
 
 pub below : {k l n : ℕ} → k ≡ l → l < n → k < n
 below e h = omega arith
@@ -111,6 +140,27 @@ module _ {b : List ℕ} (ok : Runnable b) {i : ℕ} (lt : i < count b) {F : Form
       held
       (omega (arith, less, ap size at-form, gone .loaded .search)))
 
+  -- the search goes to the operand j, or reads it
+  pub seeks : {s : Store} {g : Place} {j : ℕ} {t : Turn}
+      → make F b i (treeAt b) ≡ fill (contextOf b g) (treeAt b j) → Held b g
+      → left-to-search (contextOf b g) + 2 * size (treeAt b j) < 2 * size (make F b i (treeAt b))
+      → Sought b s j g t
+      → Turned b (2 * size (treeAt b i)) (treeAt b i) s t
+  seeks e held less (went-down gone) = down e held less gone
+  seeks {g = g} e held less (read-there tree h work act top rule) =
+      reads-there (at-form ∙ e ∙ ap (fill (contextOf b g)) tree) h held work act top rule
+
+  -- an operand of a node with a type has the type that its place asks
+  pub operand-typed : (g : Place) {j k : ℕ}
+      → j ≡ k → make F b i (treeAt b) ≡ fill (contextOf b g) (treeAt b k) → ((T : Ty) × (env b ⊢ treeAt b i ∶ T))
+      → env b ⊢ treeAt b j ∶ asks (contextOf b g)
+  operand-typed g {j} {k} q e (T, typed) =
+      let whole : env b ⊢ fill (contextOf b g) (treeAt b k) ∶ T = subst (λ (x : Expr). env b ⊢ x ∶ T) (at-form ∙ e) typed in
+      rw q (part-typed (contextOf b g) whole)
+
+  pub typed-as : {T : Ty} → env b ⊢ treeAt b i ∶ T → env b ⊢ make F b i (treeAt b) ∶ T
+  typed-as {T} typed = subst (λ (e : Expr). env b ⊢ e ∶ T) at-form typed
+
   -- a loop becomes its `if`
   pub unfolds : {c : ℕ} {s : Store} {t : Turn}
       → F ≡ While → child2 b i < count b → Gone b (child1 b i) a.Push (p.Again i) 8 t
@@ -126,8 +176,28 @@ module _ {b : List ℕ} (ok : Runnable b) {i : ℕ} (lt : i < count b) {F : Form
       tt
       gone
 
+-- no literal of another type is an int
+pub bool-no-int : {Γ : TypeEnv} {t : Bool} → Γ ⊢ bool t ∶ tInt → ⊥
+bool-no-int d = elim d [ ]
+
+pub skip-no-int : {Γ : TypeEnv} → Γ ⊢ skip ∶ tInt → ⊥
+skip-no-int d = elim d [ ]
+
 deref-in : {Γ : TypeEnv} {l : ℕ} {T : Ty} → Γ ⊢ ! l ∶ T → l < Γ .locations
 deref-in (t-deref declared) = declared .below
+
+pub deref-told : (F : Form) → isDeref F ≡ true → F ≡ Deref
+deref-told Integer e = cc
+deref-told Boolean e = cc
+deref-told Plus e = cc
+deref-told Geq e = cc
+deref-told If e = cc
+deref-told Assign e = cc
+deref-told Deref e = refl
+deref-told Skip e = cc
+deref-told Seq e = cc
+deref-told While e = cc
+deref-told Unknown e = cc
 
 -- a dereference
 module _ {b : List ℕ} (ok : Runnable b) {i : ℕ} (lt : i < count b) (q : formOf (kind b i) ≡ Deref) where
@@ -141,5 +211,8 @@ module _ {b : List ℕ} (ok : Runnable b) {i : ℕ} (lt : i < count b) (q : form
       tt
       tt
 
+  pub deref-tree : {l : ℕ} → l ≡ arg b i → treeAt b i ≡ ! l
+  deref-tree e = at-form ok lt q ∙ ap !_ (sym e)
+
   pub deref-below : {T : Ty} → env b ⊢ treeAt b i ∶ T → arg b i < locations b
-  deref-below {T} typed = deref-in (subst (λ (e : Expr). env b ⊢ e ∶ T) (at-form ok lt q) typed)
+  deref-below typed = deref-in (typed-as ok lt q typed)

@@ -13,7 +13,7 @@ use Rattle.l1.specs.Measures.{depth}
 use Rattle.l1.proofs.Places.{places, places-below-depth, run-adds-no-places}
 use Rattle.machine.specs.Contexts.{Context, in-op1, in-op2, in-if3, in-assign2, in-seq2, fill, plug}
 
-fill-step : (f : Context) {r : Rule} {e e′ : Expr} {s s′ : Store} → ⟨ e ∣ s ⟩⟶⟨ e′ ∣ s′ ⟩ r → ⟨ fill f e ∣ s ⟩⟶⟨ fill f e′ ∣ s′ ⟩ r
+pub fill-step : (f : Context) {r : Rule} {e e′ : Expr} {s s′ : Store} → ⟨ e ∣ s ⟩⟶⟨ e′ ∣ s′ ⟩ r → ⟨ fill f e ∣ s ⟩⟶⟨ fill f e′ ∣ s′ ⟩ r
 fill-step (in-op1 i o e₂) d = op1 d
 fill-step (in-op2 i o n) d = op2 v-int d
 fill-step (in-if3 e₂ e₃) d = if3 d

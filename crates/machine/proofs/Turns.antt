@@ -8,6 +8,7 @@ use mathlib.Core.List.{List, _∷_}
 use lib.ListN.{length, getD, set, length-set}
 use lib.Seq.{getD-set-same, getD-set-other}
 use borrow.Author.Count.{below-more}
+use Rattle.l1.proofs.Clash.{clash}
 use Rattle.l1.specs.Syntax.{Expr, v-int, v-bool, v-skip, Ty}
 use Rattle.l1.specs.Store.{Store}
 use Rattle.l1.specs.Typing.{_⊢_∶_}
@@ -38,9 +39,6 @@ use Rattle.machine.specs.declared.Next.{Next}
 use Rattle.machine.specs.declared.Ending.{Ending}
 use Rattle.machine.proofs.Stacks.{plug-step, plug-overflow, plug-typed, stack-fits}
 use Rattle.machine.proofs.NodeActs.{few-nodes}
-
-clash : {A : Type 0} → false ≡ true → A
-clash q = absurd (let z : _≡_ {A = ℕ} 0 1 = cc in omega arith)
 
 -- ---- the counts of a rule
 

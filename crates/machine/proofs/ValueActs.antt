@@ -7,9 +7,9 @@ use mathlib.Core.List.{List}
 use lib.IntN.{ℤ}
 use lib.ListN.{length}
 use lib.Signed.{leZ}
-use Rattle.l1.specs.Syntax.{Op, Expr, int, bool, _:=_, skip, Ty, tInt, tBool, tUnit}
+use Rattle.l1.specs.Syntax.{Op, Expr, int, bool, _‹_#_›_, _:=_, skip, Ty, tInt, tBool, tUnit}
 use Rattle.l1.specs.Store.{Store}
-use Rattle.l1.specs.Typing.{TypeEnv, _⊢_∶_, t-assign}
+use Rattle.l1.specs.Typing.{TypeEnv, _⊢_∶_, t-op+, t-op≥, t-assign}
 use Rattle.l1.specs.Steps.{by-geq, by-assign, by-seq, by-if-true, by-if-false, op≥, assign1, seq1, if1, if2}
 use Rattle.l1.specs.Measures.{size}
 use Rattle.stored.specs.Layout.{kind, child2, child3}
@@ -17,9 +17,9 @@ use Rattle.stored.specs.Reader.{treeAt}
 use Rattle.stored.specs.Refusals.{locations, count, env}
 use Rattle.routine.specs.Forms.{formOf}
 use Rattle.routine.specs.Open.{Runnable}
-use Rattle.machine.specs.Contexts.{in-op1, in-op2, fill, left-to-search}
+use Rattle.machine.specs.Contexts.{Context, in-op1, in-op2, fill, left-to-search}
 use Rattle.machine.specs.State.{exprOf, Busy, Seen, searchOf, takesOf, nodeOf, numberOf, truthOf, contextOf, Held, redex, Stands, searchAt}
-use Rattle.machine.specs.Acts.{searched, worked, Gone, Summed}
+use Rattle.machine.specs.Acts.{searched, worked, Gone, Sought, went-down, read-there, Summed}
 use Rattle.machine.specs.declared.Work.{Work}
 use Rattle.machine.specs.declared.Work.the-variants as w
 use Rattle.machine.specs.declared.Place.{Place}
@@ -27,10 +27,20 @@ use Rattle.machine.specs.declared.Place.the-variants as p
 use Rattle.machine.specs.declared.Act.the-variants as a
 use Rattle.machine.specs.declared.Turn.{Turn}
 use Rattle.machine.proofs.Stacks.{asks, part-typed}
-use Rattle.machine.proofs.NodeActs.{Turned, to-node, CameTo, came-to}
+use Rattle.machine.proofs.NodeActs.{Turned, to-node, reads-there, CameTo, came-to}
 
 assigned : {Γ : TypeEnv} {l : ℕ} {e : Expr} {T : Ty} → Γ ⊢ l := e ∶ T → l < Γ .locations
 assigned (t-assign d h) = d .below
+
+right-typed : {Γ : TypeEnv} {o : Op} {i : ℕ} {e₁ e₂ : Expr} {T : Ty} → Γ ⊢ e₁ ‹ o # i › e₂ ∶ T → Γ ⊢ e₂ ∶ tInt
+right-typed (t-op+ h h′) = h′
+right-typed (t-op≥ h h′) = h′
+
+-- the right operand of what stands in the place f is an int
+pub right-operand-typed : (b : List ℕ) (f : Place) (e : Expr) {i j k : ℕ} {o : Op}
+    → j ≡ k → contextOf b f ≡ in-op1 i o (treeAt b k) → ((T : Ty) × (env b ⊢ fill (contextOf b f) e ∶ T))
+    → env b ⊢ treeAt b j ∶ tInt
+right-operand-typed b f e q c (T, typed) = rw q (right-typed (subst (λ (x : Context). env b ⊢ fill x e ∶ T) c typed))
 
 -- the value of a type that a work is
 abbrev valueOf : Ty → Work → Expr
@@ -63,10 +73,10 @@ Comes b f y s t = Turned b (left-to-search (contextOf b f)) (fill (contextOf b f
 
 -- where the place f is known to be g
 pub in-place : (b : List ℕ) (y : Work) {f g : Place} {s : Store} {t : Turn}
-    → f ≡ g → Runnable b × (takesOf y ≡ 1) × Held b f × ((T : Ty) × (env b ⊢ fill (contextOf b f) (exprOf b y) ∶ T))
+    → f ≡ g → Runnable b × (takesOf y ≡ 1) × Held b f × (locations b ≤ length s) × ((T : Ty) × (env b ⊢ fill (contextOf b f) (exprOf b y) ∶ T))
     → (Filled b g y → Comes b g y s t)
     → Comes b f y s t
-in-place b y {f} {s = s} {t = t} q (ok, one, held, (T, typed)) comes =
+in-place b y {f} {s = s} {t = t} q (ok, one, held, covered, (T, typed)) comes =
     let value = typed-value b (asks (contextOf b f)) y one (part-typed (contextOf b f) typed) in
     let filled : Filled b f y = record { held = held; type = T; typed = typed; value = value } in
     subst (λ (g : Place). Comes b g y s t) (sym q) (comes (subst (λ (g : Place). Filled b g y) q filled))
@@ -74,13 +84,16 @@ in-place b y {f} {s = s} {t = t} q (ok, one, held, (T, typed)) comes =
 module _ {b : List ℕ} {y : Work} {s : Store} {t : Turn} where
   -- the search goes from the left operand to the right
   pub across : {f g : Place} {i j : ℕ} {o : Op}
-      → Filled b f y → contextOf b f ≡ in-op1 i o (treeAt b j) → contextOf b g ≡ in-op2 i o (numberOf y) → Held b g → Gone b j a.Push g 0 t
+      → Filled b f y → contextOf b f ≡ in-op1 i o (treeAt b j) → contextOf b g ≡ in-op2 i o (numberOf y) → Held b g → Sought b s j g t
       → Comes b f y s t
-  across {f} {g} v q q′ held gone =
+  across {f} {g} v q q′ held (went-down gone) =
       let z : exprOf b y ≡ int (numberOf y) = rw q at (v .value) in
       let same : fill (contextOf b g) (exprOf b (t .work)) ≡ fill (contextOf b f) (exprOf b y) = rw (q, q′, z, gone .loaded .same) in
       rw (gone .act, gone .top, gone .rule)
       (searched {y = t .work} {g = g} same (gone .loaded .seen) held (rw (q, q′) (omega (arith, gone .loaded .search))))
+  across {f} {g} v q q′ held (read-there tree h work act top rule) =
+      let z : exprOf b y ≡ int (numberOf y) = rw q at (v .value) in
+      reads-there (rw (q, q′, z, tree) refl) h held work act top rule
 
   pub adds : {i : ℕ} {n n₁ n₂ : ℤ}
       → Filled b (p.PlusRight i n) y → n₁ ≡ n → n₂ ≡ numberOf y → Summed i n₁ n₂ t

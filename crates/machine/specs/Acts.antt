@@ -4,15 +4,16 @@ use mathlib.Core.Path.{_≡_}
 use mathlib.Core.List.{List}
 use lib.IntN.{ℤ}
 use lib.ListN.{length}
-use Rattle.l1.specs.Syntax.{plus, Expr, int, _‹_#_›_}
-use Rattle.l1.specs.Store.{Store}
-use Rattle.l1.specs.Steps.{Rule, ⟨_∣_⟩⟶⟨_∣_⟩_}
+use Rattle.l1.specs.Syntax.{plus, Expr, int, _‹_#_›_, !_}
+use Rattle.l1.specs.Store.{Store, _∈dom_, lookup}
+use Rattle.l1.specs.Steps.{Rule, by-deref, ⟨_∣_⟩⟶⟨_∣_⟩_}
 use Rattle.l1.specs.Overflow.{_overflows-at_}
 use Rattle.l1.specs.Measures.{size}
 use Rattle.stored.specs.Reader.{treeAt}
 use Rattle.machine.specs.Contexts.{fill, left-to-search}
 use Rattle.machine.specs.State.{exprOf, Seen, searchOf, contextOf, Held, after, HeldBy, written, Within, ruleNo, madeBy, turnedBy, lastRule}
 use Rattle.machine.specs.declared.Work.{Work}
+use Rattle.machine.specs.declared.Work.the-variants as w
 use Rattle.machine.specs.declared.Place.{Place}
 use Rattle.machine.specs.declared.Act.{Act}
 use Rattle.machine.specs.declared.Act.the-variants as a
@@ -51,6 +52,13 @@ pub record Gone (b : List ℕ) (c : ℕ) (d : Act) (g : Place) (ρ : ℕ) (r : T
   pub act : r .act ≡ d
   pub top : r .top ≡ g
   pub rule : r .rule ≡ ρ
+
+-- the search went to the operand c under the place g, or read it where it is a dereference
+pub data Sought (b : List ℕ) (s : Store) (c : ℕ) (g : Place) (r : Turn) : Type 0 where
+  went-down : Gone b c a.Push g 0 r → Sought b s c g r
+  read-there : {l : ℕ} → treeAt b c ≡ ! l → l ∈dom s
+      → r .work ≡ w.Int (lookup s l) → r .act ≡ a.Push → r .top ≡ g → r .rule ≡ ruleNo by-deref
+      → Sought b s c g r
 
 -- a sum went as the definition says, whatever the routine and the store
 pub record Summed (i : ℕ) (l v : ℤ) (r : Turn) : Type 0 where

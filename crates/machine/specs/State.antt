@@ -54,6 +54,19 @@ Busy Seq = Unit
 Busy While = Unit
 Busy Unknown = ⊥
 
+abbrev pub isDeref : Form → Bool
+isDeref Integer = false
+isDeref Boolean = false
+isDeref Plus = false
+isDeref Geq = false
+isDeref If = false
+isDeref Assign = false
+isDeref Deref = true
+isDeref Skip = false
+isDeref Seq = false
+isDeref While = false
+isDeref Unknown = false
+
 -- a work that is a node is a node of the routine and no literal
 abbrev pub Seen : List ℕ → Work → Type 0
 Seen b (w.Node i) = (i < count b) × Busy (formOf (kind b i))

@@ -1,12 +1,14 @@
 // The machine that makes the steps of the rules: pending places, the work, and one act at a time.
 //
-// Three choices here are for speed, and each was measured: `Work::Node` holds a u64, because an enum of eight bytes or less is carried packed in
+// Some choices here are for speed, and each was measured. `Work::Node` holds a u64, because an enum of eight bytes or less is carried packed in
 // one word and shifted apart at every turn; the place that an act pushes stands beside the act and not inside it; and every payload of a place
-// is a u32 at one offset. Undone, each costs a sixth to a third.
+// is a u32 at one offset: undone, each of these costs a sixth to a third. `seek` tells three cases of an operand apart, which needs no table of
+// jumps, where `load` has four; the loop in `go_on` starts with a test of the work and no subtraction, and it writes the store last, when the
+// fewest numbers are still wanted: docs/PERFORMANCE.md says what these give.
 ghost use mathlib.Core.Path.{_≡_};
 ghost use Prim.Native.Nat.{ℕ, _+_, _*_, _<_, _≤_};
 ghost use lib.ListN.{length};
-ghost use Rattle.l1.specs.Syntax.{Ty};
+ghost use Rattle.l1.specs.Syntax.{Ty, tInt};
 ghost use Rattle.l1.specs.Store.{Store};
 ghost use Rattle.l1.specs.Typing.{_⊢_∶_};
 ghost use Rattle.l1.specs.Measures.{size};
@@ -17,8 +19,8 @@ ghost use Rattle.stored.specs.Refusals.{locations, count, env};
 ghost use Rattle.routine.specs.Forms.{formOf};
 ghost use Rattle.routine.specs.Open.{rootOf, Runnable};
 ghost use Rattle.machine.specs.Contexts.{fill, left-to-search};
-ghost use Rattle.machine.specs.State.{exprOf, Busy, Seen, takesOf, nodeOf, numberOf, truthOf, contextOf, Held, redex, Stands, searchAt, growsOf, isOver, overAt, written, Within, madeBy, turnedBy, lastRule, endOf, outcomeOf, meaning, Moment};
-ghost use Rattle.machine.specs.Acts.{Went, Stepped, Loaded, Gone, Summed};
+ghost use Rattle.machine.specs.State.{exprOf, Busy, isDeref, Seen, takesOf, nodeOf, numberOf, truthOf, contextOf, Held, redex, Stands, searchAt, growsOf, isOver, overAt, written, Within, madeBy, turnedBy, lastRule, endOf, outcomeOf, meaning, Moment};
+ghost use Rattle.machine.specs.Acts.{Went, Stepped, Loaded, Gone, Sought, Summed};
 use routine::Form;
 use sums::Sum;
 
@@ -132,7 +134,7 @@ fn short(x: u8) -> u32
 }
 
 // How many places a work takes: a value stands in the place on top.
-fn takes(x: Work) -> usize
+pub fn takes(x: Work) -> usize
     ensures { λ r. ⌜ r ≡ takesOf x ⌝ }
 {
     match x {
@@ -177,7 +179,7 @@ fn truth(x: Work) -> bool
     }
 }
 
-fn end_of(x: Work) -> Ending
+pub fn end_of(x: Work) -> Ending
     ensures { λ r. ⌜ r ≡ endOf x ⌝ }
 {
     match x {
@@ -188,7 +190,7 @@ fn end_of(x: Work) -> Ending
     }
 }
 
-fn grows(a: Act) -> usize
+pub fn grows(a: Act) -> usize
     ensures { λ r. ⌜ r ≡ growsOf a ⌝ }
 {
     match a {
@@ -199,7 +201,7 @@ fn grows(a: Act) -> usize
     }
 }
 
-fn is_over(a: Act) -> bool
+pub fn is_over(a: Act) -> bool
     ensures { λ r. ⌜ r ≡ isOver a ⌝ }
 {
     match a {
@@ -210,7 +212,7 @@ fn is_over(a: Act) -> bool
     }
 }
 
-fn over_at(a: Act) -> u32
+pub fn over_at(a: Act) -> u32
     ensures { λ r. ⌜ r ≡ overAt a ⌝ }
 {
     match a {
@@ -221,7 +223,7 @@ fn over_at(a: Act) -> u32
     }
 }
 
-fn write(a: Act, s: &mut [i32])
+pub fn write(a: Act, s: &mut [i32])
     requires { ⌜ Within (length (now s)) a ⌝ }
     ensures { λ r. ⌜ now (s .exit) ≡ written (now (s .entry)) a ⌝ }
 {
@@ -275,17 +277,42 @@ fn load(b: &[u8], c: u32) -> Work
     }
 }
 
+fn is_deref(f: Form) -> bool
+    ensures { λ r. ⌜ r ≡ isDeref f ⌝ }
+{
+    match f {
+        Form::Integer => false,
+        Form::Boolean => false,
+        Form::Plus => false,
+        Form::Geq => false,
+        Form::If => false,
+        Form::Assign => false,
+        Form::Deref => true,
+        Form::Skip => false,
+        Form::Seq => false,
+        Form::While => false,
+        Form::Unknown => false,
+    }
+}
+
+// The work is x, under the place that is pushed.
+fn under(x: Work, top: Place, rule: u64) -> Turn
+    ensures { λ r. ⌜ (r .work ≡ x) × (r .act ≡ Act.Push) × (r .top ≡ top) × (r .rule ≡ rule) ⌝ }
+{
+    Turn {
+        work: x,
+        act: Act::Push,
+        top: top,
+        rule: rule,
+    }
+}
+
 // The work goes to the node c, under the place that is pushed.
 fn down(b: &[u8], c: u32, top: Place, rule: u64) -> Turn
     requires { ⌜ Runnable (now b) × (c < count (now b)) ⌝ }
     ensures { λ r. ⌜ Gone (now (b .entry)) c Act.Push top rule r ⌝ }
 {
-    Turn {
-        work: load(b, c),
-        act: Act::Push,
-        top: top,
-        rule: rule,
-    }
+    under(load(b, c), top, rule)
 }
 
 // The work goes to the node c by a step that leaves no place of its own.
@@ -298,6 +325,39 @@ fn leap(b: &[u8], c: u32, rule: u64) -> Turn
         act: Act::Rest,
         top: Place::Blank,
         rule: rule,
+    }
+}
+
+// What `load` gives for an operand, which has the type int and so is no other literal.
+fn operand(b: &[u8], c: u32) -> Work
+    requires { ⌜ Runnable (now b) × (c < count (now b)) × (env (now b) ⊢ treeAt (now b) c ∶ tInt) ⌝ }
+    ensures { λ r. ⌜ Loaded (now (b .entry)) c r ⌝ }
+{
+    match routine::form_at(b, c) {
+        Form::Integer => Work::Int(routine::integer_at(b, c)),
+        Form::Boolean => Work::Node(c as u64),
+        Form::Skip => Work::Node(c as u64),
+        Form::Unknown => Work::Node(c as u64),
+        Form::Plus => Work::Node(c as u64),
+        Form::Geq => Work::Node(c as u64),
+        Form::If => Work::Node(c as u64),
+        Form::Assign => Work::Node(c as u64),
+        Form::Deref => Work::Node(c as u64),
+        Form::Seq => Work::Node(c as u64),
+        Form::While => Work::Node(c as u64),
+    }
+}
+
+// The search goes to the operand c, and reads it at once where it is a dereference: the step that the search would come to next.
+fn seek(b: &[u8], s: &[i32], c: u32, top: Place) -> Turn
+    requires { ⌜ Runnable (now b) × (c < count (now b)) × (locations (now b) ≤ length (now s)) × (env (now b) ⊢ treeAt (now b) c ∶ tInt) ⌝ }
+    ensures { λ r. ⌜ Sought (now (b .entry)) (now (s .entry)) c top r ⌝ }
+{
+    if is_deref(routine::form_at(b, c)) {
+        let l = routine::wide(routine::arg_at(b, c));
+        under(Work::Int(s[l]), top, DEREF)
+    } else {
+        under(operand(b, c), top, SEARCH)
     }
 }
 
@@ -319,12 +379,12 @@ fn at_node(b: &[u8], s: &[i32], i: u32) -> Turn
     ensures { λ r. ⌜ Went (now (b .entry)) (2 * size (treeAt (now (b .entry)) i)) (treeAt (now (b .entry)) i) (now (s .entry)) (r .work) (r .act) (r .top) (r .rule) ⌝ }
 {
     match routine::form_at(b, i) {
-        Form::Plus => down(b, routine::first_at(b, i), Place::PlusLeft(i), SEARCH),
-        Form::Geq => down(b, routine::first_at(b, i), Place::GeqLeft(i), SEARCH),
+        Form::Plus => seek(b, s, routine::first_at(b, i), Place::PlusLeft(i)),
+        Form::Geq => seek(b, s, routine::first_at(b, i), Place::GeqLeft(i)),
         Form::If => down(b, routine::first_at(b, i), Place::Test(i), SEARCH),
         Form::Assign => {
             let l = short(routine::arg_at(b, i));
-            down(b, routine::first_at(b, i), Place::Store(l), SEARCH)
+            seek(b, s, routine::first_at(b, i), Place::Store(l))
         }
         Form::Seq => {
             let j = routine::second_at(b, i);
@@ -353,18 +413,18 @@ fn plus_at(i: u32, l: i32, v: i32) -> Turn
 }
 
 // A value in the place on top.
-fn at_value(b: &[u8], f: Place, x: Work) -> Turn
-    requires { ⌜ Runnable (now b) × (takesOf x ≡ 1) × Held (now b) f × ((T : Ty) × (env (now b) ⊢ fill (contextOf (now b) f) (exprOf (now b) x) ∶ T)) ⌝ }
-    ensures { λ r. ⌜ ((s : Store) → locations (now (b .entry)) ≤ length s → Went (now (b .entry)) (left-to-search (contextOf (now (b .entry)) f)) (fill (contextOf (now (b .entry)) f) (exprOf (now (b .entry)) x)) s (r .work) (r .act) (r .top) (r .rule)) ⌝ }
+fn at_value(b: &[u8], s: &[i32], f: Place, x: Work) -> Turn
+    requires { ⌜ Runnable (now b) × (takesOf x ≡ 1) × Held (now b) f × (locations (now b) ≤ length (now s)) × ((T : Ty) × (env (now b) ⊢ fill (contextOf (now b) f) (exprOf (now b) x) ∶ T)) ⌝ }
+    ensures { λ r. ⌜ Went (now (b .entry)) (left-to-search (contextOf (now (b .entry)) f)) (fill (contextOf (now (b .entry)) f) (exprOf (now (b .entry)) x)) (now (s .entry)) (r .work) (r .act) (r .top) (r .rule) ⌝ }
 {
     match f {
         Place::PlusLeft(i) => {
             let v = number(x);
-            down(b, routine::second_at(b, i), Place::PlusRight(i, v), SEARCH)
+            seek(b, s, routine::second_at(b, i), Place::PlusRight(i, v))
         }
         Place::GeqLeft(i) => {
             let v = number(x);
-            down(b, routine::second_at(b, i), Place::GeqRight(i, v), SEARCH)
+            seek(b, s, routine::second_at(b, i), Place::GeqRight(i, v))
         }
         Place::PlusRight(i, l) => plus_at(i, l, number(x)),
         Place::GeqRight(_, l) => comes_to(Work::Bool(sums::geq(l, number(x))), Act::Rest, GEQ),
@@ -399,7 +459,7 @@ fn act_at(b: &[u8], s: &[i32], f: Place, x: Work) -> Turn
     if takes(x) == 0 {
         at_node(b, s, node_of(x))
     } else {
-        at_value(b, f, x)
+        at_value(b, s, f, x)
     }
 }
 
@@ -435,7 +495,7 @@ impl Machine {
 // The machine before the first step.
 pub fn start(b: &[u8], root: u32) -> Machine
     requires { ⌜ Runnable (now b) × (root + 1 ≡ count (now b)) ⌝ }
-    ensures { λ r. ⌜ Loaded (now (b .entry)) root (r .work) × (r .steps ≡ 0) × (r .loops ≡ 0) ⌝ }
+    ensures { λ r. ⌜ Loaded (now (b .entry)) root (r .work) × (r .steps ≡ 0) × (r .loops ≡ 0) × (r .rule ≡ 0) ⌝ }
 {
     Machine {
         work: load(b, root),
@@ -467,12 +527,13 @@ pub fn go_on(b: &[u8], pending: Pending, machine: Machine, s: &mut [i32], limit:
     let mut m = machine;
     let out = loop {
         let x = m.work;
-        let h = p.height;
-        let take = takes(x);
-        if h < take {
+        let at = if takes(x) == 0 {
+            p.height
+        } else if p.height == 0 {
             break end_of(x);
-        }
-        let at = h - take;
+        } else {
+            p.height - 1
+        };
         let frame = p.frames[at];
         let place = frame.place;
         let next = m.step(place, b, s);
@@ -484,11 +545,11 @@ pub fn go_on(b: &[u8], pending: Pending, machine: Machine, s: &mut [i32], limit:
         if limit < to.steps {
             break Ending::Fuel;
         }
-        write(act, s);
         let pushed = next.top;
         let top = Frame { place: pushed };
         p.frames[at] = top;
         p.height = at + grows(act);
+        write(act, s);
         m = to;
     };
     Paused {

@@ -1,70 +1,69 @@
 -- A turn of the layout's loop: what is known of the nodes passed, of the next one, and at the end.
-use Prim.Native.Nat.{ℕ, _+_, _-_, _≤_, _<_}
+use Prim.Native.Nat.{ℕ, _+_, _-_, _/_, _%_, _<_}
 use native.Mathlib.Omega.{arith}
-use mathlib.Core.Path.{_≡_, refl, sym, _∙_}
+use mathlib.Core.Path.{_≡_, refl, sym}
 use mathlib.Core.Bool.{Bool, true, false}
 use mathlib.Core.List.{List}
 use lib.ListN.{length, getD, set}
 use lib.Seq.{getD-set-same, getD-set-other}
 use borrow.Author.Count.{below-more}
 use Rattle.l1.specs.Syntax.{Expr}
-use Rattle.l1.specs.Measures.{size}
-use Rattle.l1.proofs.Nodes.{size-positive}
+use Rattle.l1.specs.Measures.{size, depth}
+use Rattle.l1.proofs.Depth.{depth-within-size}
 use Rattle.stored.specs.Layout.{arg, child2, child3, TreeAt}
 use Rattle.stored.specs.Reader.{treeAt, StandBelow}
 use Rattle.stored.specs.Refusals.{count}
-use Rattle.stored.proofs.Subtrees.{size-fits}
 use Rattle.routine.specs.Forms.{nodeOf}
 use Rattle.routine.specs.Masks.{Covers, under}
-use Rattle.opener.specs.Shapes.{keepsNode, spanOf}
-use Rattle.opener.proofs.NodeTrees.{TableOf, size-by, stands-keeps, keeps-stands}
+use Rattle.opener.specs.Shapes.{keepsNode, wordAt}
+use Rattle.opener.proofs.NodeTrees.{WordOf, WordsOf, word-by, stands-keeps, keeps-stands}
 
--- a tree stands at node j, and the table holds the number of its nodes
-pub record Passed (b sizes : List ℕ) (j : ℕ) : Type 0 where
+-- a tree stands at node j, and the table holds its word
+pub record Passed (b words : List ℕ) (j : ℕ) : Type 0 where
   pub stands : TreeAt b j (treeAt b j)
-  pub held : getD sizes j 0 ≡ size (treeAt b j)
+  pub held : WordOf j (treeAt b j) (getD words j 0)
 
-module _ (b sizes : List ℕ) (i mask : ℕ) (past : (j : ℕ) → j < i → Passed b sizes j) (low : Covers mask i) where
-  table : TableOf size b i (under mask sizes)
+module _ (b words : List ℕ) (i mask : ℕ) (past : (j : ℕ) → j < i → Passed b words j) (low : Covers mask i) where
+  table : WordsOf b i (under mask words)
   table j l = rw (low j l) (past j l .held)
 
   keeps : Bool
-  keeps = keepsNode (nodeOf b i) i (under mask sizes (child2 b i)) (under mask sizes (child3 b i))
+  keeps = keepsNode (nodeOf b i) i (under mask words (child2 b i) % 65536) (under mask words (child3 b i) % 65536)
 
-  pub next-stands : (k : ℕ) → k ≡ spanOf b i (under mask sizes) → ¬ (k ≡ 0)
-      → TreeAt b i (treeAt b i) × (k ≡ size (treeAt b i)) × (k ≤ i + 1)
-  unfolding spanOf keeps
-  next-stands k e some = go keeps refl
+  -- a tree stands at the next node, of this word, which has room in the table
+  pub next-stands : (k : ℕ) → i < 4096 → k ≡ wordAt b i (under mask words) → ¬ (k ≡ 0)
+      → TreeAt b i (treeAt b i) × WordOf i (treeAt b i) k × (k < 4294967296)
+  unfolding wordAt keeps
+  next-stands k few e some = go keeps refl
     where
-      go : (t : Bool) → keeps ≡ t → TreeAt b i (treeAt b i) × (k ≡ size (treeAt b i)) × (k ≤ i + 1)
+      go : (t : Bool) → keeps ≡ t → TreeAt b i (treeAt b i) × WordOf i (treeAt b i) k × (k < 4294967296)
       go true h =
-          let t = keeps-stands b (λ j l. past j l .stands) (under mask sizes) table h in
-          let z : k ≡ size (treeAt b i) = (rw h at e) ∙ sym (size-by b _ table t) in
-          (t, z, omega (arith, size-fits b t))
+          let t = keeps-stands b (λ j l. past j l .stands) (under mask words) table h in
+          let w : WordOf i (treeAt b i) k = rw (rw h at e) (word-by b _ table (omega arith) t) in
+          (t, w, omega (arith, w .low, w .deep, depth-within-size (treeAt b i)))
       go false h = absurd (some (rw h at e))
 
-  pub next-breaks : (k : ℕ) → arg b i < 256 → k ≡ spanOf b i (under mask sizes) → k ≡ 0 → (e : Expr) → ¬ TreeAt b i e
-  unfolding spanOf keeps
+  pub next-breaks : (k : ℕ) → arg b i < 256 → k ≡ wordAt b i (under mask words) → k ≡ 0 → (e : Expr) → ¬ TreeAt b i e
+  unfolding wordAt keeps
   next-breaks k a h none e t =
-      let kept : keeps ≡ true = stands-keeps b (under mask sizes) table a t in
-      let z : k ≡ size e = (rw kept at h) ∙ sym (size-by b _ table t) in
-      omega (arith, size-positive e)
+      let kept : keeps ≡ true = stands-keeps b (under mask words) table a t in
+      omega (arith, rw kept at h)
 
-  pub next-passed : (k : ℕ) → i < length sizes → TreeAt b i (treeAt b i) → k ≡ size (treeAt b i)
-      → (j : ℕ) → j < i + 1 → Passed b (set sizes i k) j
-  next-passed k l t e =
+  pub next-passed : (k : ℕ) → i < length words → TreeAt b i (treeAt b i) → WordOf i (treeAt b i) k
+      → (j : ℕ) → j < i + 1 → Passed b (set words i k) j
+  next-passed k l t w =
       below-more _ _
-      (λ j h. record { stands = past j h .stands; held = getD-set-other sizes i j k 0 (omega arith) ∙ past j h .held })
-      (record { stands = t; held = getD-set-same sizes i k 0 l ∙ e })
+      (λ j h. record { stands = past j h .stands; held = rw (getD-set-other words i j k 0 (omega arith)) (past j h .held) })
+      (record { stands = t; held = rw (getD-set-same words i k 0 l) w })
 
 -- all n nodes are passed
-module _ (b sizes : List ℕ) (n : ℕ) (past : (j : ℕ) → j < n → Passed b sizes j) (all : n ≡ count b) (some : 0 < n) where
-  pub whole : getD sizes (n - 1) 0 ≡ n → StandBelow b (count b) × (size (treeAt b (count b - 1)) ≡ count b)
-  whole e = rw (← all) ((λ j l. past j l .stands), sym (past (n - 1) (omega arith) .held) ∙ e)
+module _ (b words : List ℕ) (n : ℕ) (past : (j : ℕ) → j < n → Passed b words j) (all : n ≡ count b) (some : 0 < n) where
+  root : WordOf (n - 1) (treeAt b (n - 1)) (getD words (n - 1) 0)
+  root = past (n - 1) (omega arith) .held
 
-  pub forest : ¬ (getD sizes (n - 1) 0 ≡ n) → StandBelow b (count b) × (size (treeAt b (count b - 1)) < count b)
-  forest e =
-      let p = past (n - 1) (omega arith) in
-      let f : size (treeAt b (n - 1)) ≤ n - 1 + 1 = size-fits b (p .stands) in
-      let u : ¬ (size (treeAt b (n - 1)) ≡ n) = λ q. e (p .held ∙ q) in
-      rw (← all) ((λ j l. past j l .stands), omega arith)
+  pub forest : ¬ (getD words (n - 1) 0 % 65536 ≡ 0) → StandBelow b (count b) × (size (treeAt b (count b - 1)) < count b)
+  forest e = rw (← all) ((λ j l. past j l .stands), omega (arith, root .low))
+
+  pub whole : getD words (n - 1) 0 % 65536 ≡ 0
+      → StandBelow b (count b) × (size (treeAt b (count b - 1)) ≡ count b) × (depth (treeAt b (count b - 1)) ≡ getD words (n - 1) 0 / 65536)
+  whole e = rw (← all) ((λ j l. past j l .stands), omega (arith, root .low), sym (root .deep))

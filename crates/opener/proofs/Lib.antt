@@ -1,7 +1,6 @@
 -- The laws of opening.
 pub mod Order  -- which refusal is the lowest
 pub mod NodeTrees  -- a node that keeps the layout, and the tree at it
-pub mod Arities  -- the jump-free forms of a node's tests and sums
+pub mod Arities  -- the jump-free forms of a node's tests
 pub mod LayoutTurn  -- a turn of the layout's loop
-pub mod Depths  -- a turn of the depths' loop
 pub mod OneAnswer  -- the contract of opening leaves one answer

@@ -1,23 +1,22 @@
--- A node keeps the layout exactly where a tree stands at it, trees standing at the nodes before it; and the tree's nodes and depth come from
--- those of its children. What is asked of the nodes before it may come from a table that holds it.
-use Prim.Native.Nat.{ℕ, zero, suc, _+_, _≤_, _<_, max}
+-- A node keeps the layout exactly where a tree stands at it, trees standing at the nodes before it; and the tree's word comes from those of its
+-- children, which a table of the nodes before it holds.
+use Prim.Native.Nat.{ℕ, zero, suc, _+_, _*_, _/_, _%_, _≤_, _<_, max}
 use native.Mathlib.Omega.{arith}
-use mathlib.Core.Path.{_≡_, refl, _∙_, ap}
+use mathlib.Core.Path.{_≡_, refl, ap}
 use mathlib.Core.Bool.{Bool, true, false, _&&_, cond}
 use mathlib.Core.List.{List}
 use lib.Dec.{eqb, leb}
 use borrow.Author.Tests.{eqb-true, eqb-false, leb-true, eq-eqb, le-leb}
-use Rattle.l1.specs.Syntax.{plus, geq, Expr}
+use Rattle.l1.proofs.Clash.{clash}
+use Rattle.l1.specs.Syntax.{plus, geq, Expr, int, bool, _‹_#_›_, if_then_else_, _:=_, !_, skip, _⨾_, while_do′_done}
 use Rattle.l1.specs.Measures.{size, depth}
+use Rattle.l1.proofs.Depth.{depth-within-size}
 use Rattle.stored.specs.Layout.{kind, arg, child1, child2, child3, NodeIs, TreeAt}
 use Rattle.stored.specs.Layout.{at-int, at-bool, at-op, at-if, at-assign, at-deref, at-skip, at-seq, at-while}
 use Rattle.stored.specs.Reader.{treeAt, StandBelow}
 use Rattle.stored.proofs.Reader.{read-tree}
 use Rattle.routine.specs.Forms.{formOf, nodeOf}
-use Rattle.opener.specs.Shapes.{Shape, Leaf, Number, One, Two, Three, Nothing, shapeOf, argTop, placed, keepsNode, sizeBy, depthBy}
-
-clash : {A : Type 0} → false ≡ true → A
-clash e = absurd (let z : _≡_ {A = ℕ} 0 1 = cc in omega arith)
+use Rattle.opener.specs.Shapes.{Shape, Leaf, Number, One, Two, Three, Nothing, shapeOf, argTop, placed, keepsNode, wordBy}
 
 pub both : (a b : Bool) → a && b ≡ true → (a ≡ true) × (b ≡ true)
 both true b e = (refl, e)
@@ -34,16 +33,16 @@ abbrev pub Placed : Shape → ℕ → ℕ → ℕ → ℕ → ℕ → ℕ → Ty
 Placed Leaf i x y z q r = (x ≡ 0) × (y ≡ 0) × (z ≡ 0)
 Placed Number i x y z q r = x ≡ 0
 Placed One i x y z q r = (x + 1 ≡ i) × (y ≡ 0) × (z ≡ 0)
-Placed Two i x y z q r = (y + 1 ≡ i) × (x + q ≡ y) × (z ≡ 0)
-Placed Three i x y z q r = (z + 1 ≡ i) × (y + r ≡ z) × (x + q ≡ y)
+Placed Two i x y z q r = (y + 1 ≡ i) × (x + 1 ≡ q) × (z ≡ 0)
+Placed Three i x y z q r = (z + 1 ≡ i) × (y + 1 ≡ r) × (x + 1 ≡ q)
 Placed Nothing i x y z q r = ⊥
 
 pub placed-true : (h : Shape) (i x y z q r : ℕ) → placed h i x y z q r ≡ true → Placed h i x y z q r
 placed-true Leaf i x y z q r e = three x 0 y 0 z 0 e
 placed-true Number i x y z q r e = eqb-true x 0 e
 placed-true One i x y z q r e = three (x + 1) i y 0 z 0 e
-placed-true Two i x y z q r e = three (y + 1) i (x + q) y z 0 e
-placed-true Three i x y z q r e = three (z + 1) i (y + r) z (x + q) y e
+placed-true Two i x y z q r e = three (y + 1) i (x + 1) q z 0 e
+placed-true Three i x y z q r e = three (z + 1) i (y + 1) r (x + 1) q e
 placed-true Nothing i x y z q r e = clash e
 
 bit : (a : ℕ) → a ≤ 1 → a ≡ cond (eqb a 1) 1 0
@@ -53,97 +52,138 @@ bit a h = go (eqb a 1) refl
     go true e = eqb-true a 1 e
     go false e = omega (arith, eqb-false a 1 e)
 
--- s is a table of v: it holds v of the tree at each node before i
-abbrev pub TableOf : (Expr → ℕ) → List ℕ → ℕ → (ℕ → ℕ) → Type 0
-TableOf v b i s = (j : ℕ) → j < i → s j ≡ v (treeAt b j)
+-- w is the word of the tree e at node j: with e's nodes the lowest of them makes up those to j, and its depth is e's
+pub record WordOf (j : ℕ) (e : Expr) (w : ℕ) : Type 0 where
+  pub low : w % 65536 + size e ≡ j + 1
+  pub deep : w / 65536 ≡ depth e
 
-held : (v : Expr → ℕ) (b : List ℕ) (s : ℕ → ℕ) {i x : ℕ} {e : Expr} → TableOf v b i s → TreeAt b x e → x < i → s x ≡ v e
-held v b s {i} {x} h t l = h x l ∙ ap v (read-tree b (x + 1) t (omega arith))
+-- s is a table of the words of the trees at the nodes before i
+abbrev pub WordsOf : List ℕ → ℕ → (ℕ → ℕ) → Type 0
+WordsOf b i s = (j : ℕ) → j < i → WordOf j (treeAt b j) (s j)
 
--- the nodes and the depth of a tree, where s and d are tables of these
-module _ (b : List ℕ) (s d : ℕ → ℕ) {i : ℕ} (hs : TableOf size b i s) (hd : TableOf depth b i d) where
-  two-by : {x y : ℕ} {e₁ e₂ : Expr} → TreeAt b x e₁ → TreeAt b y e₂ → x < i → y < i
-      → (1 + size e₁ + size e₂ ≡ 1 + s x + s y) × (1 + max (depth e₁) (depth e₂) ≡ 1 + max (d x) (d y))
-  two-by t₁ t₂ l₁ l₂ =
-      rw (held size b s hs t₁ l₁, held size b s hs t₂ l₂, held depth b d hd t₁ l₁, held depth b d hd t₂ l₂) (refl, refl)
+some-depth : (e : Expr) → 1 ≤ depth e
+some-depth (int n) = omega arith
+some-depth (bool t) = omega arith
+some-depth (e₁ ‹ o # i › e₂) = omega arith
+some-depth (if e₁ then e₂ else e₃) = omega arith
+some-depth (l := e) = omega arith
+some-depth (! l) = omega arith
+some-depth skip = omega arith
+some-depth (e₁ ⨾ e₂) = omega arith
+some-depth (while e₁ do′ e₂ done) = omega arith
 
-  both-by : {e : Expr} → TreeAt b i e
-      → (size e ≡ sizeBy (shapeOf (formOf (kind b i))) (s (child1 b i)) (s (child2 b i)) (s (child3 b i)))
-      × (depth e ≡ depthBy (shapeOf (formOf (kind b i))) (d (child1 b i)) (d (child2 b i)) (d (child3 b i)))
-  both-by (at-int n v) = rw (n .its-kind) (refl, refl)
-  both-by (at-bool n) = rw (n .its-kind) (refl, refl)
-  both-by (at-op {o = plus} n p q t₁ t₂) = rw (n .its-kind, n .its-first, n .its-second) (two-by t₁ t₂ (omega arith) (omega arith))
-  both-by (at-op {o = geq} n p q t₁ t₂) = rw (n .its-kind, n .its-first, n .its-second) (two-by t₁ t₂ (omega arith) (omega arith))
-  both-by (at-if {x = x} {y = y} {z = z} n p q r t₁ t₂ t₃) =
-      let l₁ : x < i = omega arith in
-      let l₂ : y < i = omega arith in
-      let l₃ : z < i = omega arith in
-      rw (n .its-kind, n .its-first, n .its-second, n .its-third)
-      (rw (held size b s hs t₁ l₁, held size b s hs t₂ l₂, held size b s hs t₃ l₃)
-      (rw (held depth b d hd t₁ l₁, held depth b d hd t₂ l₂, held depth b d hd t₃ l₃) (refl, refl)))
-  both-by (at-assign n p t) =
-      rw (n .its-kind, n .its-first, held size b s hs t (omega arith), held depth b d hd t (omega arith)) (refl, refl)
-  both-by (at-deref n) = rw (n .its-kind) (refl, refl)
-  both-by (at-skip n) = rw (n .its-kind) (refl, refl)
-  both-by (at-seq n p q t₁ t₂) = rw (n .its-kind, n .its-first, n .its-second) (two-by t₁ t₂ (omega arith) (omega arith))
-  both-by (at-while n p q t₁ t₂) = rw (n .its-kind, n .its-first, n .its-second) (two-by t₁ t₂ (omega arith) (omega arith))
+-- the word of a node with children tells the lowest node of the first, and 1 more than the largest depth
+joined : (p q r : ℕ)
+    → let w = 65536 + (p % 65536 + 65536 * (max p (max q r) / 65536)) in
+    (w % 65536 ≡ p % 65536) × (w / 65536 ≡ 1 + max (p / 65536) (max (q / 65536) (r / 65536)))
+joined p q r = (omega arith, omega arith)
 
-module _ (b : List ℕ) (s : ℕ → ℕ) {i : ℕ} where
-  pub size-by : {e : Expr} → TableOf size b i s → TreeAt b i e
-      → size e ≡ sizeBy (shapeOf (formOf (kind b i))) (s (child1 b i)) (s (child2 b i)) (s (child3 b i))
-  size-by h t = both-by b s (λ j. depth (treeAt b j)) h (λ j l. refl) t .0
+leaf-word : {i : ℕ} {e : Expr} → i < 65536 → size e ≡ 1 → depth e ≡ 1 → WordOf i e (65536 + i)
+leaf-word few one flat = record { low = omega arith; deep = omega arith }
 
-  pub depth-by : {e : Expr} → TableOf depth b i s → TreeAt b i e
-      → depth e ≡ depthBy (shapeOf (formOf (kind b i))) (s (child1 b i)) (s (child2 b i)) (s (child3 b i))
-  depth-by h t = both-by b (λ j. size (treeAt b j)) s (λ j l. refl) h t .1
+module _ (b : List ℕ) (s : ℕ → ℕ) {i : ℕ} (h : WordsOf b i s) where
+  held : {x : ℕ} {e : Expr} → TreeAt b x e → x < i → WordOf x e (s x)
+  held {x} {e} t l = let q : treeAt b x ≡ e = read-tree b (x + 1) t (omega arith) in rw q at (h x l)
 
-  two-kept : {y : ℕ} {e : Expr} (x : ℕ) → TableOf size b i s → y + 1 ≡ i → x + size e ≡ y → TreeAt b y e
-      → eqb (y + 1) i && eqb (x + s y) y && true ≡ true
-  two-kept x h p q t = rw (held size b s h t (omega arith), eq-eqb _ _ p, eq-eqb _ _ q)
+  -- where a node has no child, node 0 is read, which is not deeper than any tree
+  flat : 0 < i → (e : Expr) → s 0 / 65536 ≤ depth e
+  flat l e = let w = h 0 l in omega (arith, w .low, w .deep, depth-within-size (treeAt b 0), some-depth e)
+
+  one-by : {x : ℕ} {e₁ e : Expr} → TreeAt b x e₁ → x + 1 ≡ i → size e ≡ 1 + size e₁ → depth e ≡ 1 + depth e₁
+      → WordOf i e (65536 + (s x % 65536 + 65536 * (max (s x) (max (s 0) (s 0)) / 65536)))
+  one-by {x} {e₁} t p n d =
+      let w = held t (omega arith) in
+      let j = joined (s x) (s 0) (s 0) in
+      let f = flat (omega arith) e₁ in
+      record { low = omega (arith, w .low); deep = omega (arith, w .deep) }
+
+  two-by : {x y : ℕ} {e₁ e₂ e : Expr} → TreeAt b x e₁ → TreeAt b y e₂ → y + 1 ≡ i → x + size e₂ ≡ y
+      → size e ≡ 1 + size e₁ + size e₂ → depth e ≡ 1 + max (depth e₁) (depth e₂)
+      → WordOf i e (65536 + (s x % 65536 + 65536 * (max (s x) (max (s y) (s 0)) / 65536)))
+  two-by {x} {y} {e₁} t₁ t₂ p q n d =
+      let w₁ = held t₁ (omega arith) in
+      let w₂ = held t₂ (omega arith) in
+      let j = joined (s x) (s y) (s 0) in
+      let f = flat (omega arith) e₁ in
+      record { low = omega (arith, w₁ .low); deep = omega (arith, w₁ .deep, w₂ .deep) }
+
+  three-by : {x y z : ℕ} {e₁ e₂ e₃ e : Expr} → TreeAt b x e₁ → TreeAt b y e₂ → TreeAt b z e₃
+      → z + 1 ≡ i → y + size e₃ ≡ z → x + size e₂ ≡ y
+      → size e ≡ 1 + size e₁ + size e₂ + size e₃ → depth e ≡ 1 + max (depth e₁) (max (depth e₂) (depth e₃))
+      → WordOf i e (65536 + (s x % 65536 + 65536 * (max (s x) (max (s y) (s z)) / 65536)))
+  three-by {x} {y} {z} t₁ t₂ t₃ p q r n d =
+      let w₁ = held t₁ (omega arith) in
+      let w₂ = held t₂ (omega arith) in
+      let w₃ = held t₃ (omega arith) in
+      let j = joined (s x) (s y) (s z) in
+      record { low = omega (arith, w₁ .low); deep = omega (arith, w₁ .deep, w₂ .deep, w₃ .deep) }
+
+  -- the word of a tree, from those of its children
+  pub word-by : {e : Expr} → i < 65536 → TreeAt b i e
+      → WordOf i e (wordBy (shapeOf (formOf (kind b i))) i (s (child1 b i)) (s (child2 b i)) (s (child3 b i)))
+  word-by few (at-int n v) = rw (n .its-kind) (leaf-word few refl refl)
+  word-by few (at-bool n) = rw (n .its-kind) (leaf-word few refl refl)
+  word-by few (at-op {o = plus} n p q t₁ t₂) = rw (n .its-kind, n .its-first, n .its-second, n .its-third) (two-by t₁ t₂ p q refl refl)
+  word-by few (at-op {o = geq} n p q t₁ t₂) = rw (n .its-kind, n .its-first, n .its-second, n .its-third) (two-by t₁ t₂ p q refl refl)
+  word-by few (at-if n p q r t₁ t₂ t₃) = rw (n .its-kind, n .its-first, n .its-second, n .its-third) (three-by t₁ t₂ t₃ p q r refl refl)
+  word-by few (at-assign n p t) = rw (n .its-kind, n .its-first, n .its-second, n .its-third) (one-by t p refl refl)
+  word-by few (at-deref n) = rw (n .its-kind) (leaf-word few refl refl)
+  word-by few (at-skip n) = rw (n .its-kind) (leaf-word few refl refl)
+  word-by few (at-seq n p q t₁ t₂) = rw (n .its-kind, n .its-first, n .its-second, n .its-third) (two-by t₁ t₂ p q refl refl)
+  word-by few (at-while n p q t₁ t₂) = rw (n .its-kind, n .its-first, n .its-second, n .its-third) (two-by t₁ t₂ p q refl refl)
+
+  -- the child before y stands right before y's subtree
+  before : (x : ℕ) {y : ℕ} {e : Expr} → y < i → x + size e ≡ y → TreeAt b y e → x + 1 ≡ s y % 65536
+  before x l q t = let w = held t l in omega (arith, w .low)
+
+  two-kept : (x : ℕ) {y : ℕ} {e : Expr} → y + 1 ≡ i → x + size e ≡ y → TreeAt b y e
+      → eqb (y + 1) i && eqb (x + 1) (s y % 65536) && true && true ≡ true
+  two-kept x p q t = rw (eq-eqb _ _ p, eq-eqb _ _ (before x (omega arith) q t))
 
   -- where a tree stands the node keeps the layout; byte 1 is a byte
-  pub stands-keeps : {e : Expr} → TableOf size b i s → arg b i < 256 → TreeAt b i e
-      → keepsNode (nodeOf b i) i (s (child2 b i)) (s (child3 b i)) ≡ true
-  stands-keeps h a (at-int n v) = rw (n .its-kind, n .its-arg, n .its-first)
-  stands-keeps h a (at-bool {t = true} n) = rw (n .its-kind, n .its-arg, n .its-first, n .its-second, n .its-third)
-  stands-keeps h a (at-bool {t = false} n) = rw (n .its-kind, n .its-arg, n .its-first, n .its-second, n .its-third)
-  stands-keeps h a (at-op {o = plus} {x = x} n p q t₁ t₂) =
-      rw (n .its-kind, n .its-arg, n .its-first, n .its-second, n .its-third) (two-kept x h p q t₂)
-  stands-keeps h a (at-op {o = geq} {x = x} n p q t₁ t₂) =
-      rw (n .its-kind, n .its-arg, n .its-first, n .its-second, n .its-third) (two-kept x h p q t₂)
-  stands-keeps h a (at-if n p q r t₁ t₂ t₃) =
+  pub stands-keeps : {e : Expr} → arg b i < 256 → TreeAt b i e
+      → keepsNode (nodeOf b i) i (s (child2 b i) % 65536) (s (child3 b i) % 65536) ≡ true
+  stands-keeps a (at-int n v) = rw (n .its-kind, n .its-arg, n .its-first)
+  stands-keeps a (at-bool {t = true} n) = rw (n .its-kind, n .its-arg, n .its-first, n .its-second, n .its-third)
+  stands-keeps a (at-bool {t = false} n) = rw (n .its-kind, n .its-arg, n .its-first, n .its-second, n .its-third)
+  stands-keeps a (at-op {o = plus} {x = x} n p q t₁ t₂) =
+      rw (n .its-kind, n .its-arg, n .its-first, n .its-second, n .its-third) (two-kept x p q t₂)
+  stands-keeps a (at-op {o = geq} {x = x} n p q t₁ t₂) =
+      rw (n .its-kind, n .its-arg, n .its-first, n .its-second, n .its-third) (two-kept x p q t₂)
+  stands-keeps a (at-if {x = x} {y = y} n p q r t₁ t₂ t₃) =
       rw (n .its-kind, n .its-arg, n .its-first, n .its-second, n .its-third)
-      (rw (held size b s h t₂ (omega arith), held size b s h t₃ (omega arith), eq-eqb _ _ p, eq-eqb _ _ q, eq-eqb _ _ r))
-  stands-keeps h a (at-assign n p t) =
+      (rw (eq-eqb _ _ p, eq-eqb _ _ (before y (omega arith) q t₃), eq-eqb _ _ (before x (omega arith) r t₂)))
+  stands-keeps a (at-assign n p t) =
       rw (n .its-kind, n .its-first, n .its-second, n .its-third, le-leb (arg b i) 255 (omega arith), eq-eqb _ _ p)
-  stands-keeps h a (at-deref n) =
+  stands-keeps a (at-deref n) =
       rw (n .its-kind, n .its-first, n .its-second, n .its-third, le-leb (arg b i) 255 (omega arith))
-  stands-keeps h a (at-skip n) = rw (n .its-kind, n .its-arg, n .its-first, n .its-second, n .its-third)
-  stands-keeps h a (at-seq {x = x} n p q t₁ t₂) =
-      rw (n .its-kind, n .its-arg, n .its-first, n .its-second, n .its-third) (two-kept x h p q t₂)
-  stands-keeps h a (at-while {x = x} n p q t₁ t₂) =
-      rw (n .its-kind, n .its-arg, n .its-first, n .its-second, n .its-third) (two-kept x h p q t₂)
+  stands-keeps a (at-skip n) = rw (n .its-kind, n .its-arg, n .its-first, n .its-second, n .its-third)
+  stands-keeps a (at-seq {x = x} n p q t₁ t₂) =
+      rw (n .its-kind, n .its-arg, n .its-first, n .its-second, n .its-third) (two-kept x p q t₂)
+  stands-keeps a (at-while {x = x} n p q t₁ t₂) =
+      rw (n .its-kind, n .its-arg, n .its-first, n .its-second, n .its-third) (two-kept x p q t₂)
 
 -- a node that keeps the layout, by its kind
-module _ (b : List ℕ) {i : ℕ} (below : StandBelow b i) (s : ℕ → ℕ) (h : TableOf size b i s) where
+module _ (b : List ℕ) {i : ℕ} (below : StandBelow b i) (s : ℕ → ℕ) (h : WordsOf b i s) where
   standing : {e : Expr} → TreeAt b i e → TreeAt b i (treeAt b i)
   standing t = rw (read-tree b (i + 1) t (omega arith)) t
 
   two-stand : {k : ℕ} {e : Expr} → kind b i ≡ k → arg b i ≤ 0
-      → Placed Two i (child1 b i) (child2 b i) (child3 b i) (s (child2 b i)) (s (child3 b i))
+      → Placed Two i (child1 b i) (child2 b i) (child3 b i) (s (child2 b i) % 65536) (s (child3 b i) % 65536)
       → (NodeIs b i k 0 (child1 b i) (child2 b i) 0
       → child2 b i + 1 ≡ i → child1 b i + size (treeAt b (child2 b i)) ≡ child2 b i
       → TreeAt b (child1 b i) (treeAt b (child1 b i)) → TreeAt b (child2 b i) (treeAt b (child2 b i))
       → TreeAt b i e)
       → TreeAt b i (treeAt b i)
   two-stand k a p at =
+      let w = h (child2 b i) (omega arith) .low in
       standing
       (at (record { its-kind = k; its-arg = omega arith; its-first = refl; its-second = refl; its-third = p .2 })
-      (p .0) (omega (arith, h (child2 b i) (omega arith)))
+      (p .0) (omega arith)
       (below (child1 b i) (omega arith)) (below (child2 b i) (omega arith)))
 
   by-kind : (k : ℕ) → kind b i ≡ k → arg b i ≤ argTop (formOf k)
-      → Placed (shapeOf (formOf k)) i (child1 b i) (child2 b i) (child3 b i) (s (child2 b i)) (s (child3 b i))
+      → Placed (shapeOf (formOf k)) i (child1 b i) (child2 b i) (child3 b i) (s (child2 b i) % 65536) (s (child3 b i) % 65536)
       → TreeAt b i (treeAt b i)
   by-kind zero k a p =
       standing (at-int (record { its-kind = k; its-arg = omega arith; its-first = p; its-second = refl; its-third = refl }) refl)
@@ -154,9 +194,11 @@ module _ (b : List ℕ) {i : ℕ} (below : StandBelow b i) (s : ℕ → ℕ) (h 
   by-kind (suc (suc zero)) k a p = two-stand k a p (at-op {o = plus})
   by-kind (suc (suc (suc zero))) k a p = two-stand k a p (at-op {o = geq})
   by-kind (suc (suc (suc (suc zero)))) k a p =
+      let v = h (child3 b i) (omega arith) .low in
+      let w = h (child2 b i) (omega arith) .low in
       standing
       (at-if (record { its-kind = k; its-arg = omega arith; its-first = refl; its-second = refl; its-third = refl })
-      (p .0) (omega (arith, h (child3 b i) (omega arith))) (omega (arith, h (child2 b i) (omega arith)))
+      (p .0) (omega arith) (omega arith)
       (below (child1 b i) (omega arith)) (below (child2 b i) (omega arith)) (below (child3 b i) (omega arith)))
   by-kind (suc (suc (suc (suc (suc zero))))) k a p =
       standing
@@ -171,9 +213,9 @@ module _ (b : List ℕ) {i : ℕ} (below : StandBelow b i) (s : ℕ → ℕ) (h 
   by-kind (suc (suc (suc (suc (suc (suc (suc (suc (suc (suc m)))))))))) k a p = absurd p
 
   -- where the node keeps the layout a tree stands
-  pub keeps-stands : keepsNode (nodeOf b i) i (s (child2 b i)) (s (child3 b i)) ≡ true → TreeAt b i (treeAt b i)
+  pub keeps-stands : keepsNode (nodeOf b i) i (s (child2 b i) % 65536) (s (child3 b i) % 65536) ≡ true → TreeAt b i (treeAt b i)
   keeps-stands e =
       let F = formOf (kind b i) in
-      let c = both (leb (arg b i) (argTop F)) (placed (shapeOf F) i (child1 b i) (child2 b i) (child3 b i) (s (child2 b i)) (s (child3 b i))) e in
-      by-kind (kind b i) refl (leb-true (arg b i) (argTop F) (c .0))
-      (placed-true (shapeOf F) i (child1 b i) (child2 b i) (child3 b i) (s (child2 b i)) (s (child3 b i)) (c .1))
+      let c = both (placed (shapeOf F) i (child1 b i) (child2 b i) (child3 b i) (s (child2 b i) % 65536) (s (child3 b i) % 65536)) (leb (arg b i) (argTop F)) e in
+      by-kind (kind b i) refl (leb-true (arg b i) (argTop F) (c .1))
+      (placed-true (shapeOf F) i (child1 b i) (child2 b i) (child3 b i) (s (child2 b i) % 65536) (s (child3 b i) % 65536) (c .0))

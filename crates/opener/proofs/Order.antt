@@ -19,7 +19,7 @@ use Rattle.stored.specs.Answers.{Headed, Opening, opens, open-opens}
 use Rattle.stored.proofs.Reader.{holds-unique}
 use Rattle.routine.proofs.Past.{past}
 use Rattle.opener.specs.Says.{LaidSays}
-use Rattle.opener.specs.declared.Laid.the-variants.{Breaks, Forest, Whole}
+use Rattle.opener.specs.declared.Laid.the-variants.{Breaks, Forest, Deep, Whole}
 
 -- what each number says of the bytes, from 0 on
 abbrev reasons : List ℕ → List (Type 0)
@@ -138,8 +138,8 @@ module _ (b : List ℕ) where
     pub lowest-8 : LaidSays b Forest → Lowest (Given b) (no 8)
     lowest-8 (stand, less) = lowest (given-8 (holds-root stand) less) (clears-7 stand)
 
-    pub lowest-9 : LaidSays b Whole → 256 < depth (treeAt b (count b - 1)) → Lowest (Given b) (no 9)
-    lowest-9 (stand, whole) h = lowest (given-9 (holds-root stand) h) (clears-8 stand whole)
+    pub lowest-9 : LaidSays b Deep → Lowest (Given b) (no 9)
+    lowest-9 (stand, whole, deep) = lowest (given-9 (holds-root stand) deep) (clears-8 stand whole)
 
-    pub opens-whole : LaidSays b Whole → depth (treeAt b (count b - 1)) ≤ 256 → Opening b (opens (locations b) (count b))
-    opens-whole (stand, whole) h = open-opens (none-given (clears-9 stand whole h)) (holds-root stand)
+    pub opens-whole : LaidSays b Whole → Opening b (opens (locations b) (count b))
+    opens-whole (stand, whole, low) = open-opens (none-given (clears-9 stand whole low)) (holds-root stand)

@@ -1,5 +1,5 @@
--- One node by its shape: whether its children stand where they must, and the nodes and the depth of its subtree, from its children's.
-use Prim.Native.Nat.{ℕ, _+_, max}
+-- One node by its shape: whether its children stand where they must, and the word that tells of its subtree, from its children's.
+use Prim.Native.Nat.{ℕ, _+_, _*_, _/_, _%_, max}
 use mathlib.Core.Bool.{Bool, false, _&&_, cond}
 use mathlib.Core.List.{List}
 use lib.Dec.{eqb, leb}
@@ -26,6 +26,14 @@ shapeOf Seq = Two
 shapeOf While = Two
 shapeOf Unknown = Nothing
 
+abbrev pub childrenOf : Shape → ℕ
+childrenOf Leaf = 0
+childrenOf Number = 0
+childrenOf One = 1
+childrenOf Two = 2
+childrenOf Three = 3
+childrenOf Nothing = 0
+
 -- the largest byte 1
 abbrev pub argTop : Form → ℕ
 argTop Integer = 0
@@ -40,42 +48,30 @@ argTop Seq = 0
 argTop While = 0
 argTop Unknown = 0
 
--- the children x, y and z of node i, where q and r are the nodes under the second and the third
+-- the children x, y and z of node i, where q and r are the lowest nodes under the second and the third
 abbrev pub placed : Shape → ℕ → ℕ → ℕ → ℕ → ℕ → ℕ → Bool
 placed Leaf i x y z q r = eqb x 0 && eqb y 0 && eqb z 0
 placed Number i x y z q r = eqb x 0
 placed One i x y z q r = eqb (x + 1) i && eqb y 0 && eqb z 0
-placed Two i x y z q r = eqb (y + 1) i && eqb (x + q) y && eqb z 0
-placed Three i x y z q r = eqb (z + 1) i && eqb (y + r) z && eqb (x + q) y
+placed Two i x y z q r = eqb (y + 1) i && eqb (x + 1) q && eqb z 0
+placed Three i x y z q r = eqb (z + 1) i && eqb (y + 1) r && eqb (x + 1) q
 placed Nothing i x y z q r = false
 
--- the child c of node i, `has` telling whether the node has it: w nodes before the next child where there is one more, else right before
--- the node
-abbrev pub standsBy : Bool → Bool → ℕ → ℕ → ℕ → ℕ → Bool
-standsBy has more c i next w = eqb (c + cond more w (cond has 1 0)) (cond more next (cond has i 0))
+-- the child c of node i, `has` being 1 where the node has it and else 0: right before the next child's lowest node where there is one more,
+-- else right before the node
+abbrev pub standsBy : ℕ → Bool → ℕ → ℕ → ℕ → Bool
+standsBy has more c i low = eqb (c + has) (cond more low (has * i))
 
 abbrev pub keepsNode : Node → ℕ → ℕ → ℕ → Bool
-keepsNode d i q r = leb (d .arg) (argTop (d .form)) && placed (shapeOf (d .form)) i (d .first) (d .second) (d .third) q r
+keepsNode d i q r = placed (shapeOf (d .form)) i (d .first) (d .second) (d .third) q r && leb (d .arg) (argTop (d .form))
 
-abbrev pub sizeBy : Shape → ℕ → ℕ → ℕ → ℕ
-sizeBy Leaf p q r = 1
-sizeBy Number p q r = 1
-sizeBy One p q r = 1 + p
-sizeBy Two p q r = 1 + p + q
-sizeBy Three p q r = 1 + p + q + r
-sizeBy Nothing p q r = 1
+-- a word tells the lowest node of a subtree, and 65536 times its depth: that of a node i whose children's words are p, q and r
+abbrev pub wordBy : Shape → ℕ → ℕ → ℕ → ℕ → ℕ
+wordBy h i p q r = 65536 + cond (leb 1 (childrenOf h)) (p % 65536 + 65536 * (max p (max q r) / 65536)) i
 
-abbrev pub depthBy : Shape → ℕ → ℕ → ℕ → ℕ
-depthBy Leaf p q r = 1
-depthBy Number p q r = 1
-depthBy One p q r = 1 + p
-depthBy Two p q r = 1 + max p q
-depthBy Three p q r = 1 + max p (max q r)
-depthBy Nothing p q r = 1
-
--- the nodes of node i's subtree, 0 where the node breaks the layout; s gives those of the nodes before it
-unfoldable pub spanOf : List ℕ → ℕ → (ℕ → ℕ) → ℕ
-spanOf b i s =
-    cond (keepsNode (nodeOf b i) i (s (child2 b i)) (s (child3 b i)))
-    (sizeBy (shapeOf (formOf (kind b i))) (s (child1 b i)) (s (child2 b i)) (s (child3 b i)))
+-- the word of node i, 0 where the node breaks the layout; s gives those of the nodes before it
+unfoldable pub wordAt : List ℕ → ℕ → (ℕ → ℕ) → ℕ
+wordAt b i s =
+    cond (keepsNode (nodeOf b i) i (s (child2 b i) % 65536) (s (child3 b i) % 65536))
+    (wordBy (shapeOf (formOf (kind b i))) i (s (child1 b i)) (s (child2 b i)) (s (child3 b i)))
     0

@@ -95,7 +95,7 @@ module _ (b : List ℕ) where
   same-given-run {r′ = r′} e (given-30 h) (by-routine g) = absurd (omega (arith, given-number r′ g))
   same-given-run e (given-30 h) (given-30 h′) = refl
 
-  given-run-number : {s : Store} {r : Refusal} → GivenRun b s r → number r ≤ 30
+  pub given-run-number : {s : Store} {r : Refusal} → GivenRun b s r → number r ≤ 30
   given-run-number {r = r} (by-routine g) = omega (arith, given-number r g)
   given-run-number (given-30 h) = omega arith
 

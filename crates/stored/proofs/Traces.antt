@@ -23,7 +23,7 @@ same-moments k t q p (more d ds) (more d′ ds′) =
     let (rule, to, left) = determinism (rw (q, p) at d) d′ in
     ap₂ _∷_ (rw (rule, to, left) refl) (same-moments (suc k) (omega arith) to left ds ds′)
 
-same-given-trace : {input : List ℕ} {r r′ : Refusal} → number r ≡ number r′ → GivenTrace input r → GivenTrace input r′ → r ≡ r′
+pub same-given-trace : {input : List ℕ} {r r′ : Refusal} → number r ≡ number r′ → GivenTrace input r → GivenTrace input r′ → r ≡ r′
 same-given-trace {input} {r} {r′} e (by-its-routine g) (by-its-routine g′) = same-given (routine input) r r′ e g g′
 same-given-trace {input} {r = r} e (by-its-routine g) (given-40 h) = absurd (omega (arith, given-number (routine input) r g))
 same-given-trace {input} {r′ = r′} e (given-40 h) (by-its-routine g) = absurd (omega (arith, given-number (routine input) r′ g))

@@ -22,7 +22,7 @@ value-is-ready c κs =
     let z = t .before .before in
     let q = is-value (z .args .x) (λ none. c .if1 .left (t .takes .ensures ∙ none)) in
     let h = as-value (now (z .args .b)) (z .args .f) (z .args .x) q (z .pre .2) (z .pre .4) in
-    (z .pre .0, q, h .0, h .1)
+    (z .pre .0, q, h .0, z .pre .3, h .1)
 
 node-acts : tie.Need-returns
 node-acts c =
@@ -37,7 +37,7 @@ value-acts c =
     let t = c .before .before in
     let z = t .before .before in
     let q = is-value (z .args .x) (λ none. c .before .if1 .left (t .takes .ensures ∙ none)) in
-    from-value (now (z .args .b)) (z .args .f) (z .args .x) q (c .at-value .ensures (now (z .args .s)) (z .pre .3))
+    from-value (now (z .args .b)) (z .args .f) (z .args .x) q (c .at-value .ensures)
 
 pub act-at-spec : {M : Type 1} → statement M
 act-at-spec =

@@ -10,14 +10,17 @@ use mir.ValLaws.{toZ-ofZ}
 use denote.Ref.{now}
 use borrow.Author.Needs.{needs}
 use Rattle.stored.specs.Layout.{start, kind, arg}
-use Rattle.stored.specs.Refusals.{count}
+use Rattle.l1.specs.Syntax.{Ty}
+use Rattle.l1.specs.Typing.{_⊢_∶_}
+use Rattle.stored.specs.Reader.{treeAt}
+use Rattle.stored.specs.Refusals.{locations, count, env}
 use Rattle.routine.specs.declared.Form.{Form}
 use Rattle.routine.specs.declared.Form.the-variants.{Deref}
 use Rattle.routine.specs.Forms.{formOf, Before}
 use Rattle.routine.specs.Open.{Runnable}
 use Rattle.machine.specs.State.{Busy}
 use Rattle.machine.specs.declared.Place.the-variants as p
-use Rattle.machine.proofs.NodeActs.{room, kids-of, not-busy, down, unfolds, derefs, deref-below, came-to, gone-by, below}
+use Rattle.machine.proofs.NodeActs.{room, kids-of, not-busy, down, seeks, operand-typed, sought-by, unfolds, derefs, deref-below, came-to, gone-by, below}
 use Rattle.machine.proofs.at_node.Statement.{statement}
 use Rattle.machine.proofs.at_node.Tie as tie
 
@@ -34,6 +37,12 @@ module _ (f : tie.After-form-at) where
 
   lt : node f < count (bytes f)
   lt = f .before .before .pre .1
+
+  covered : locations (bytes f) ≤ length (now (f .before .before .args .s))
+  covered = f .before .before .pre .3
+
+  typed : (T : Ty) × (env (bytes f) ⊢ treeAt (bytes f) (node f) ∶ T)
+  typed = f .before .before .pre .4
 
   there : start (node f + 1) ≤ length (bytes f)
   there = room ok lt
@@ -62,11 +71,17 @@ at-node-spec =
     -- plus
     (λ c. search needs)
     (λ c κs. there (c .before .before))
-    (λ c κs. let f = c .before .before .before in (ok f, child f (c .first-at .ensures) (kids f (c .before .enum-told .given .1) .0)))
+    (λ c κs.
+    let f = c .before .before .before in
+    let told = c .before .enum-told .given .1 in
+    (ok f, child f (c .first-at .ensures) (kids f told .0), covered f, operand-typed (ok f) (lt f) (is f told) (p.PlusLeft (node f)) (c .first-at .ensures) refl (typed f)))
     -- ≥
     (λ c. search needs)
     (λ c κs. there (c .before .before))
-    (λ c κs. let f = c .before .before .before in (ok f, child f (c .first-at2 .ensures) (kids f (c .before .enum-told2 .given .1) .0)))
+    (λ c κs.
+    let f = c .before .before .before in
+    let told = c .before .enum-told2 .given .1 in
+    (ok f, child f (c .first-at2 .ensures) (kids f told .0), covered f, operand-typed (ok f) (lt f) (is f told) (p.GeqLeft (node f)) (c .first-at2 .ensures) refl (typed f)))
     -- if
     (λ c. search needs)
     (λ c κs. there (c .before .before))
@@ -78,7 +93,9 @@ at-node-spec =
     (λ c κs. there (c .before .before .before .before))
     (λ c κs.
     let f = c .before .before .before .before .before in
-    (ok f, child f (c .first-at4 .ensures) (kids f (c .before .before .before .enum-told4 .given .1))))
+    let told = c .before .before .before .enum-told4 .given .1 in
+    let first = c .first-at4 .ensures in
+    (ok f, child f first (kids f told), covered f, operand-typed (ok f) (lt f) (is f told) (p.Store (arg (bytes f) (node f))) first refl (typed f)))
     -- sequence
     (λ c. search needs)
     (λ c κs. there (c .before .before))
@@ -108,32 +125,32 @@ at-node-spec =
     (λ c.
     let f = c .before .before .before .before in
     let told = c .before .before .enum-told .given .1 in
-    let gone = gone-by (c .before .first-at .ensures) refl (c .down .ensures) in
-    down (ok f) (lt f) (is f told) refl (lt f, child f refl (kids f told .1)) (omega arith) gone)
+    let gone = sought-by (c .before .first-at .ensures) refl (c .seek .ensures) in
+    seeks (ok f) (lt f) (is f told) refl (lt f, child f refl (kids f told .1)) (omega arith) gone)
     (λ c.
     let f = c .before .before .before .before in
     let told = c .before .before .enum-told2 .given .1 in
-    let gone = gone-by (c .before .first-at2 .ensures) refl (c .down2 .ensures) in
-    down (ok f) (lt f) (is f told) refl (lt f, child f refl (kids f told .1)) (omega arith) gone)
+    let gone = sought-by (c .before .first-at2 .ensures) refl (c .seek2 .ensures) in
+    seeks (ok f) (lt f) (is f told) refl (lt f, child f refl (kids f told .1)) (omega arith) gone)
     (λ c.
     let f = c .before .before .before .before in
     let told = c .before .before .enum-told3 .given .1 in
-    let gone = gone-by (c .before .first-at3 .ensures) refl (c .down3 .ensures) in
+    let gone = gone-by (c .before .first-at3 .ensures) refl (c .down .ensures) in
     down (ok f) (lt f) (is f told) refl (lt f, child f refl (kids f told .1), child f refl (kids f told .2)) (omega arith) gone)
     (λ c.
     let f = c .before .before .before .before .before .before in
     let location = c .before .before .short .ensures ∙ c .before .before .before .arg-at .ensures in
-    let gone = gone-by (c .before .first-at4 .ensures) (ap p.Store location) (c .down4 .ensures) in
-    down (ok f) (lt f) (is f (c .before .before .before .before .enum-told4 .given .1)) refl tt (omega arith) gone)
+    let gone = sought-by (c .before .first-at4 .ensures) (ap p.Store location) (c .seek3 .ensures) in
+    seeks (ok f) (lt f) (is f (c .before .before .before .before .enum-told4 .given .1)) refl tt (omega arith) gone)
     (λ c.
     let f = c .before .before .before .before .before in
     let told = c .before .before .before .enum-told5 .given .1 in
-    let gone = gone-by (c .before .first-at5 .ensures) (ap p.First (c .before .before .second-at .ensures)) (c .down5 .ensures) in
+    let gone = gone-by (c .before .first-at5 .ensures) (ap p.First (c .before .before .second-at .ensures)) (c .down2 .ensures) in
     down (ok f) (lt f) (is f told) refl (child f refl (kids f told .1)) (omega arith) gone)
     (λ c.
     let f = c .before .before .before .before in
     let told = c .before .before .enum-told6 .given .1 in
-    let gone = gone-by (c .before .first-at6 .ensures) refl (c .down6 .ensures) in
+    let gone = gone-by (c .before .first-at6 .ensures) refl (c .down3 .ensures) in
     unfolds (ok f) (lt f) (is f told) refl (child f refl (kids f told .1)) gone)
     (λ c.
     let f = c .before .before .before .before .before .before in

@@ -4,26 +4,38 @@ use mir.Syntax.{w32}
 use mir.ValLaws.{toZ-ofZ}
 use denote.Ref.{now}
 use borrow.Author.Needs.{needs}
-use Rattle.machine.specs.State.{Held}
+use Rattle.machine.specs.State.{exprOf, contextOf, Held}
 use Rattle.machine.specs.declared.Place.the-variants as p
-use Rattle.machine.proofs.NodeActs.{room, below, gone-by}
-use Rattle.machine.proofs.ValueActs.{in-place, across, adds, compares, chooses-true, chooses-false, repeats, leaves, stores, goes-on}
+use Rattle.machine.proofs.NodeActs.{room, below, gone-by, sought-by}
+use Rattle.machine.proofs.ValueActs.{in-place, right-operand-typed, across, adds, compares, chooses-true, chooses-false, repeats, leaves, stores, goes-on}
 use Rattle.machine.proofs.at_value.Statement.{statement}
 use Rattle.machine.proofs.at_value.Tie as tie
 
 -- ---- the node to go to is a node of the routine
 
-right-of-sum-is-node : tie.Need-down-requires
+right-of-sum-is-node : tie.Need-seek-requires
 right-of-sum-is-node c κs =
     let k = c .before .before .before in
-    let z = k .before .before .before in
-    (z .pre .0, below (c .second-at .ensures) (subst (Held _) (k .f .given .1) (z .pre .2) .1))
+    let z = k .before .before .before in (
+      z .pre .0,
+      below (c .second-at .ensures) (subst (Held _) (k .f .given .1) (z .pre .2) .1),
+      z .pre .3,
+      right-operand-typed (now (z .args .b)) (z .args .f) (exprOf (now (z .args .b)) (z .args .x)) (c .second-at .ensures)
+          (ap (contextOf (now (z .args .b))) (k .f .given .1))
+          (z .pre .4),
+    )
 
-right-of-comparison-is-node : tie.Need-down-requires-2
+right-of-comparison-is-node : tie.Need-seek-requires-2
 right-of-comparison-is-node c κs =
     let k = c .before .before .before in
-    let z = k .before .before .before in
-    (z .pre .0, below (c .second-at2 .ensures) (subst (Held _) (k .f2 .given .1) (z .pre .2) .1))
+    let z = k .before .before .before in (
+      z .pre .0,
+      below (c .second-at2 .ensures) (subst (Held _) (k .f2 .given .1) (z .pre .2) .1),
+      z .pre .3,
+      right-operand-typed (now (z .args .b)) (z .args .f) (exprOf (now (z .args .b)) (z .args .x)) (c .second-at2 .ensures)
+          (ap (contextOf (now (z .args .b))) (k .f2 .given .1))
+          (z .pre .4),
+    )
 
 second-of-if-is-node : tie.Need-leap-requires
 second-of-if-is-node c κs =
@@ -37,7 +49,7 @@ third-of-if-is-node c κs =
     let z = k .before .before .before in
     (z .pre .0, below (c .third-at .ensures) (subst (Held _) (k .f5 .given .1) (z .pre .2) .2))
 
-body-is-node : tie.Need-down-requires-3
+body-is-node : tie.Need-down-requires
 body-is-node c κs =
     let k = c .before .before .before .before in
     let z = k .before .before .before in
@@ -46,33 +58,33 @@ body-is-node c κs =
 -- ---- what the value comes to in each place
 
 left-of-sum : tie.Need-returns
-left-of-sum c s covered =
+left-of-sum c =
     let n = c .before .before in
     let k = n .before .before in
     let z = k .before .before .before in
     in-place (now (z .args .b)) (z .args .x) (k .f .given .1) (z .pre)
     (λ v.
     across v refl refl tt
-    (gone-by
+    (sought-by
     (c .before .second-at .ensures)
     (ap (p.PlusRight (k .f .given .0 .0)) (toZ-ofZ w32 (n .number .result) (search needs) ∙ n .number .ensures))
-    (c .down .ensures)))
+    (c .seek .ensures)))
 
 left-of-comparison : tie.Need-returns-2
-left-of-comparison c s covered =
+left-of-comparison c =
     let n = c .before .before in
     let k = n .before .before in
     let z = k .before .before .before in
     in-place (now (z .args .b)) (z .args .x) (k .f2 .given .1) (z .pre)
     (λ v.
     across v refl refl tt
-    (gone-by
+    (sought-by
     (c .before .second-at2 .ensures)
     (ap (p.GeqRight (k .f2 .given .0 .0)) (toZ-ofZ w32 (n .number2 .result) (search needs) ∙ n .number2 .ensures))
-    (c .down2 .ensures)))
+    (c .seek2 .ensures)))
 
 right-of-sum : tie.Need-returns-3
-right-of-sum c s covered =
+right-of-sum c =
     let n = c .before in
     let k = n .before .before in
     let z = k .before .before .before in
@@ -84,7 +96,7 @@ right-of-sum c s covered =
     (c .plus-at .ensures))
 
 right-of-comparison : tie.Need-returns-4
-right-of-comparison c s covered =
+right-of-comparison c =
     let n = c .before .before in
     let k = n .before .before in
     let z = k .before .before .before in
@@ -97,7 +109,7 @@ right-of-comparison c s covered =
     (c .comes-to .ensures))
 
 test-true : tie.Need-returns-5
-test-true c s covered =
+test-true c =
     let i = c .before .before in
     let k = i .before .before .before in
     let z = k .before .before .before in
@@ -105,7 +117,7 @@ test-true c s covered =
     (λ v. chooses-true v (sym (i .before .truth .ensures) ∙ i .if1 .taken) (gone-by (c .before .second-at3 .ensures) refl (c .leap .ensures)))
 
 test-false : tie.Need-returns-6
-test-false c s covered =
+test-false c =
     let i = c .before .before in
     let k = i .before .before .before in
     let z = k .before .before .before in
@@ -113,15 +125,15 @@ test-false c s covered =
     (λ v. chooses-false v (sym (i .before .truth .ensures) ∙ i .if1 .left) (gone-by (c .before .third-at .ensures) refl (c .leap2 .ensures)))
 
 loop-repeats : tie.Need-returns-7
-loop-repeats c s covered =
+loop-repeats c =
     let i = c .before .before in
     let k = i .before .before .before in
     let z = k .before .before .before in
     in-place (now (z .args .b)) (z .args .x) (k .f6 .given .1) (z .pre)
-    (λ v. repeats v (sym (i .before .truth2 .ensures) ∙ i .if2 .taken) (gone-by (c .before .second-at4 .ensures) refl (c .down3 .ensures)))
+    (λ v. repeats v (sym (i .before .truth2 .ensures) ∙ i .if2 .taken) (gone-by (c .before .second-at4 .ensures) refl (c .down .ensures)))
 
 loop-ends : tie.Need-returns-8
-loop-ends c s covered =
+loop-ends c =
     let i = c .before in
     let k = i .before .before .before in
     let z = k .before .before .before in
@@ -129,15 +141,15 @@ loop-ends c s covered =
     (λ v. leaves v (sym (i .before .truth2 .ensures) ∙ i .if2 .left) (c .comes-to2 .ensures))
 
 right-of-assignment : tie.Need-returns-9
-right-of-assignment c s covered =
+right-of-assignment c =
     let n = c .before in
     let k = n .before .before in
     let z = k .before .before .before in
     in-place (now (z .args .b)) (z .args .x) (k .f7 .given .1) (z .pre)
-    (λ v. stores v covered (toZ-ofZ w32 (n .number5 .result) (search needs) ∙ n .number5 .ensures) (c .comes-to3 .ensures))
+    (λ v. stores v (z .pre .3) (toZ-ofZ w32 (n .number5 .result) (search needs) ∙ n .number5 .ensures) (c .comes-to3 .ensures))
 
 first-of-two : tie.Need-returns-10
-first-of-two c s covered =
+first-of-two c =
     let k = c .before .before in
     let z = k .before .before .before in
     in-place (now (z .args .b)) (z .args .x) (k .f8 .given .1) (z .pre) (λ v. goes-on v (c .leap3 .ensures))

@@ -13,4 +13,4 @@ entry-spec =
     (λ c. record { fits = omega (arith, and-le-r (c .wide .result) (c .before .before .args .mask)) })
     (λ c. omega (arith, and-le-r (c .before .wide .result) (c .before .before .before .args .mask)))
     (λ c κs. search needs)
-    (λ c. (rw (c .wide2 .ensures .0, c .before .before .wide .ensures .0), omega arith)))
+    (λ c. (rw (c .long .ensures .0, c .before .before .wide .ensures .0), omega arith)))

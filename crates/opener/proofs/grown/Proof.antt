@@ -3,12 +3,20 @@ use borrow.Author.Needs.{needs}
 use Rattle.opener.proofs.grown.Statement.{statement}
 use Rattle.opener.proofs.grown.Tie as tie
 
+returns : tie.Need-returns
+returns c =
+    let a = c .before in let l = a .before in
+    rw (c .pick .ensures .0, a .children-of .ensures .0, l .larger2 .ensures, l .before .larger .ensures)
+
 pub grown-spec : {M : Type 1} → statement M
 grown-spec =
     tie.close
     (tie.spec
     (λ c κs. search needs)
+    (λ c κs. search needs)
+    (λ c κs. search needs)
     (λ c. search needs)
     (λ c. search needs)
     (λ c κs. search needs)
-    (λ c. rw (c .pick .ensures .0, c .before .wide .ensures .0)))
+    (λ c. search needs)
+    returns)

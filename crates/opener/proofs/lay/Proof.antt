@@ -1,24 +1,24 @@
--- `opener::lay` meets its contract. The invariant: a tree stands at each node passed, and the table holds the number of its nodes.
+-- `opener::lay` meets its contract. The invariant: a tree stands at each node passed, and the table holds its word.
 use borrow.Author.Needs.{needs}
 use native.Mathlib.Omega.{arith}
 use Prim.Native.Nat.{ℕ, _+_, _-_, _≤_, _<_}
 use mathlib.Core.Path.{_≡_, refl}
 use lib.ListN.{length, length-set}
-use Rattle.l1.specs.Measures.{size}
 use Rattle.stored.specs.Layout.{start, TreeAt}
 use Rattle.stored.specs.Reader.{treeAt}
 use Rattle.routine.specs.Masks.{Covers}
-use Rattle.opener.proofs.LayoutTurn.{Passed, next-stands, next-breaks, next-passed, whole, forest}
+use Rattle.opener.proofs.NodeTrees.{WordOf}
+use Rattle.opener.proofs.LayoutTurn.{Passed, next-stands, next-breaks, next-passed, forest, whole}
 use Rattle.opener.proofs.lay.Statement.{statement}
 use Rattle.opener.proofs.lay.Tie as tie
 
 abbrev Inv-loop : tie.InvT-loop
-Inv-loop b n mask sizes₀ i₀ sizes i = (i ≤ n) × (length sizes ≡ length sizes₀) × ((j : ℕ) → j < i → Passed b sizes j)
+Inv-loop b n mask words₀ i₀ words i = (i ≤ n) × (length words ≡ length words₀) × ((j : ℕ) → j < i → Passed b words j)
 
 abbrev μ-loop : tie.MeasureT-loop
-μ-loop b n mask sizes₀ i₀ sizes i = n - i
+μ-loop b n mask words₀ i₀ words i = n - i
 
-abbrev at-node : tie.After-span Inv-loop μ-loop → tie.At-loop Inv-loop μ-loop
+abbrev at-node : tie.After-word-at Inv-loop μ-loop → tie.At-loop Inv-loop μ-loop
 at-node c = c .before .before .before
 
 -- the mask covers the nodes passed
@@ -32,7 +32,7 @@ breaks c =
     let byte = h .before .before .shared-slice-known .given (start (h .loop .i) + 1) in (
       omega arith,
       (λ j l. h .loop .inv .2 j l .stands),
-      next-breaks _ (h .loop .sizes) (h .loop .i) _ (h .loop .inv .2) (low h (omega arith)) _ (omega arith) (c .before .span .ensures) (c .if1 .taken),
+      next-breaks _ (h .loop .words) (h .loop .i) _ (h .loop .inv .2) (low h (omega arith)) _ (omega arith) (c .before .word-at .ensures) (c .if1 .taken),
     )
 
 -- the next node, where it keeps the layout
@@ -40,32 +40,39 @@ next : (c : tie.Else1 Inv-loop μ-loop)
     → let h = at-node (c .before) in
     let b = h .before .before .before .args .b .now in
     TreeAt b (h .loop .i) (treeAt b (h .loop .i))
-    × (c .before .span .result ≡ size (treeAt b (h .loop .i)))
-    × (c .before .span .result ≤ h .loop .i + 1)
+    × WordOf (h .loop .i) (treeAt b (h .loop .i)) (c .before .word-at .result)
+    × (c .before .word-at .result < 4294967296)
 next c =
     let h = at-node (c .before) in
-    next-stands _ (h .loop .sizes) (h .loop .i) _ (h .loop .inv .2) (low h (omega arith)) _ (c .before .span .ensures) (c .if1 .left)
+    next-stands _ (h .loop .words) (h .loop .i) _ (h .loop .inv .2) (low h (omega arith)) _ (omega arith) (c .before .word-at .ensures) (c .if1 .left)
 
 again : tie.Need-loop-again Inv-loop μ-loop
 again c =
     let h = at-node (c .before) in (
       omega arith,
       simp length-set (omega arith),
-      next-passed _ (h .loop .sizes) (h .loop .i) _ (h .loop .inv .2) (low h (omega arith)) _ (omega arith) (next c .0) (next c .1),
+      next-passed _ (h .loop .words) (h .loop .i) _ (h .loop .inv .2) (low h (omega arith)) _ (omega arith) (next c .0) (next c .1),
     )
 
-abbrev at-end : tie.After-wide Inv-loop μ-loop → tie.At-loop Inv-loop μ-loop
+abbrev at-end : tie.After-long Inv-loop μ-loop → tie.At-loop Inv-loop μ-loop
 at-end c = c .before .before .before
 
-all-of-them : tie.Need-returns-2 Inv-loop μ-loop
-all-of-them c =
-    let h = at-end (c .before) in
-    whole _ (h .loop .sizes) _ (λ j l. h .loop .inv .2 j (omega arith)) (h .before .before .before .pre .1) (omega arith) (omega arith)
-
-fewer : tie.Need-returns-3 Inv-loop μ-loop
+fewer : tie.Need-returns-2 Inv-loop μ-loop
 fewer c =
     let h = at-end (c .before) in
-    forest _ (h .loop .sizes) _ (λ j l. h .loop .inv .2 j (omega arith)) (h .before .before .before .pre .1) (omega arith) (omega arith)
+    forest _ (h .loop .words) _ (λ j l. h .loop .inv .2 j (omega arith)) (h .before .before .before .pre .1) (omega arith) (omega arith)
+
+deep : tie.Need-returns-3 Inv-loop μ-loop
+deep c =
+    let h = at-end (c .before .before) in
+    let w = whole _ (h .loop .words) _ (λ j l. h .loop .inv .2 j (omega arith)) (h .before .before .before .pre .1) (omega arith) (omega arith) in
+    (w .0, w .1, omega (arith, w .2))
+
+shallow : tie.Need-returns-4 Inv-loop μ-loop
+shallow c =
+    let h = at-end (c .before .before) in
+    let w = whole _ (h .loop .words) _ (λ j l. h .loop .inv .2 j (omega arith)) (h .before .before .before .pre .1) (omega arith) (omega arith) in
+    (w .0, w .1, omega (arith, w .2))
 
 pub lay-spec : {M : Type 1} → statement M
 lay-spec =
@@ -78,7 +85,7 @@ lay-spec =
     (λ c. omega arith)
     (λ c. at-node (c .before) .loop .inv .1)
     breaks
-    (λ c. omega (arith, next c))
+    (λ c. omega (arith, next c .2))
     (λ c. omega arith)
     (λ c. omega arith)
     (λ c. omega arith)
@@ -89,6 +96,8 @@ lay-spec =
     (λ c. omega arith)
     (λ c κs. search needs)
     (λ c. at-end (c .before) .loop .inv .1)
-    all-of-them
-    (λ c. at-end (c .before) .loop .inv .1)
-    fewer)
+    fewer
+    (λ c. at-end (c .before .before) .loop .inv .1)
+    deep
+    (λ c. at-end (c .before .before) .loop .inv .1)
+    shallow)

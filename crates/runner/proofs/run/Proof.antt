@@ -1,7 +1,8 @@
 -- `runner::run` meets its contract: a refusal of opening is the run's, and what was opened is run.
 use borrow.Author.Needs.{needs}
+use Rattle.stored.specs.Answers.{run-refuses}
+use Rattle.stored.proofs.LowestGiven.{routine-lowest}
 use Rattle.routine.proofs.Opening.{opening-refuses, opening-opens}
-use Rattle.runner.proofs.Refusing.{routine-refused}
 use Rattle.runner.proofs.run.Statement.{statement}
 use Rattle.runner.proofs.run.Tie as tie
 
@@ -13,6 +14,6 @@ run-spec =
     (λ c. search needs)
     (λ c. search needs)
     (λ c κs. opening-opens (rw (c .before .before .z .given .1) at (c .before .before .before .before .open .ensures)))
-    (λ c. routine-refused (opening-refuses (rw (c .before .r .given .1) at (c .before .before .before .open .ensures))))
+    (λ c. run-refuses (routine-lowest (opening-refuses (rw (c .before .r .given .1) at (c .before .before .before .open .ensures)))))
     (λ c. search needs)
     (λ c. search needs))
