@@ -1,0 +1,229 @@
+// Measures and writes the text of a moment: what opens its pending places, the work, and what closes them.
+//
+// A moment's text can be megabytes long, since each loop under way holds a copy of its body; so it is measured from a table of the nodes' lengths,
+// at a cost by its places alone, before it is written.
+ghost use mathlib.Core.Path.{_≡_};
+ghost use mathlib.Core.List.{_++_};
+ghost use Prim.Native.Nat.{_+_, _*_, _≤_, _<_};
+ghost use lib.ListN.{length};
+ghost use Rattle.l1.specs.Text.{bytes, number, text};
+ghost use Rattle.stored.specs.Layout.{child2, child3};
+ghost use Rattle.stored.specs.Refusals.{count};
+ghost use Rattle.routine.specs.Open.{Runnable};
+ghost use Rattle.machine.specs.State.{exprOf, Seen, Held, contextOf, stack};
+ghost use Rattle.stepper.specs.Lent.{framesOf};
+ghost use Rattle.writer.specs.Put.{Put};
+ghost use Rattle.writer.specs.Pieces.{textAt};
+ghost use Rattle.moments.specs.Around.{opening, closing, closes, openingOf, opensOf};
+ghost use Rattle.moments.specs.Stand.{Stands, Measured, momentText};
+use machine::Place;
+use machine::Work;
+
+// An integer to the left of an operator.
+fn put_left(n: i32, sign: &[u8], buf: &mut [u8], at: usize) -> usize
+    requires { ⌜ at + length (bytes "(" ++ number n ++ now sign) ≤ length (now buf) ⌝ }
+    ensures { λ r. ⌜ Put (now (buf .entry)) at (bytes "(" ++ number n ++ now (sign .entry)) (now (buf .exit)) r ⌝ }
+{
+    let p = writer::put_byte(40, buf, at);
+    let q = writer::put_number(n, buf, p);
+    writer::put_bytes(sign, buf, q)
+}
+
+fn put_opening(f: Place, buf: &mut [u8], at: usize) -> usize
+    requires { ⌜ at + length (openingOf f) ≤ length (now buf) ⌝ }
+    ensures { λ r. ⌜ Put (now (buf .entry)) at (openingOf f) (now (buf .exit)) r ⌝ }
+{
+    match f {
+        Place::Blank => writer::put_bytes(b"(", buf, at),
+        Place::PlusLeft(_) => writer::put_bytes(b"(", buf, at),
+        Place::GeqLeft(_) => writer::put_bytes(b"(", buf, at),
+        Place::PlusRight(_, n) => put_left(n, b" + ", buf, at),
+        Place::GeqRight(_, n) => put_left(n, b" >= ", buf, at),
+        Place::Test(_) => writer::put_bytes(b"(if ", buf, at),
+        Place::Again(_) => writer::put_bytes(b"(if ", buf, at),
+        Place::Store(l) => writer::put_assigned(l as u64, buf, at),
+        Place::First(_) => writer::put_bytes(b"(", buf, at),
+    }
+}
+
+// What is to the right of an operator or a semicolon.
+fn put_right(b: &[u8], sign: &[u8], c: u32, buf: &mut [u8], at: usize) -> usize
+    requires { ⌜ Runnable (now b) × (c < count (now b)) × (at + length (now sign ++ textAt (now b) c ++ bytes ")") ≤ length (now buf)) ⌝ }
+    ensures { λ r. ⌜ Put (now (buf .entry)) at (now (sign .entry) ++ textAt (now (b .entry)) c ++ bytes ")") (now (buf .exit)) r ⌝ }
+{
+    let p = writer::put_bytes(sign, buf, at);
+    let q = writer::put_tree(b, c, buf, p);
+    writer::put_byte(41, buf, q)
+}
+
+// The branches of an if, behind its test.
+fn put_branches(b: &[u8], i: u32, buf: &mut [u8], at: usize) -> usize
+    requires { ⌜ Runnable (now b) × Held (now b) (Place.Test i) × (at + length (closing (contextOf (now b) (Place.Test i))) ≤ length (now buf)) ⌝ }
+    ensures { λ r. ⌜ Put (now (buf .entry)) at (closing (contextOf (now (b .entry)) (Place.Test i))) (now (buf .exit)) r ⌝ }
+{
+    let p = writer::put_bytes(b" then ", buf, at);
+    let q = writer::put_tree(b, routine::second_at(b, i), buf, p);
+    put_right(b, b" else ", routine::third_at(b, i), buf, q)
+}
+
+// The branches of the if that a loop became: its body with the loop again, and skip.
+fn put_again(b: &[u8], i: u32, buf: &mut [u8], at: usize) -> usize
+    requires { ⌜ Runnable (now b) × Held (now b) (Place.Again i) × (at + length (closing (contextOf (now b) (Place.Again i))) ≤ length (now buf)) ⌝ }
+    ensures { λ r. ⌜ Put (now (buf .entry)) at (closing (contextOf (now (b .entry)) (Place.Again i))) (now (buf .exit)) r ⌝ }
+{
+    let p = writer::put_bytes(b" then (", buf, at);
+    let q = writer::put_tree(b, routine::second_at(b, i), buf, p);
+    let r = put_right(b, b" ; ", i, buf, q);
+    writer::put_bytes(b" else skip)", buf, r)
+}
+
+fn put_closing(b: &[u8], f: Place, buf: &mut [u8], at: usize) -> usize
+    requires { ⌜ Runnable (now b) × Held (now b) f × (at + length (closing (contextOf (now b) f)) ≤ length (now buf)) ⌝ }
+    ensures { λ r. ⌜ Put (now (buf .entry)) at (closing (contextOf (now (b .entry)) f)) (now (buf .exit)) r ⌝ }
+{
+    match f {
+        Place::Blank => writer::put_bytes(b" ; skip)", buf, at),
+        Place::PlusLeft(i) => put_right(b, b" + ", routine::second_at(b, i), buf, at),
+        Place::GeqLeft(i) => put_right(b, b" >= ", routine::second_at(b, i), buf, at),
+        Place::PlusRight(_, _) => writer::put_bytes(b")", buf, at),
+        Place::GeqRight(_, _) => writer::put_bytes(b")", buf, at),
+        Place::Test(i) => put_branches(b, i, buf, at),
+        Place::Again(i) => put_again(b, i, buf, at),
+        Place::Store(_) => writer::put_bytes(b")", buf, at),
+        Place::First(j) => put_right(b, b" ; ", j, buf, at),
+    }
+}
+
+pub fn put_work(b: &[u8], x: Work, buf: &mut [u8], at: usize) -> usize
+    requires { ⌜ Runnable (now b) × Seen (now b) x × (at + length (text (exprOf (now b) x)) ≤ length (now buf)) ⌝ }
+    ensures { λ r. ⌜ Put (now (buf .entry)) at (text (exprOf (now (b .entry)) x)) (now (buf .exit)) r ⌝ }
+{
+    match x {
+        Work::Node(i) => writer::put_tree(b, i as u32, buf, at),
+        Work::Int(n) => writer::put_number(n, buf, at),
+        Work::Bool(t) => writer::put_truth(t, buf, at),
+        Work::Skip => writer::put_bytes(b"skip", buf, at),
+    }
+}
+
+// What opens the places below h, the outermost first.
+fn put_opens(
+    tags: &[u8],
+    nodes: &[u32],
+    integers: &[i32],
+    h: usize,
+    buf: &mut [u8],
+    at: usize,
+) -> usize
+    requires { ⌜ (h ≤ 256) × (length (framesOf (now tags) (now nodes) (now integers)) ≡ 256) × (at + length (opensOf (framesOf (now tags) (now nodes) (now integers)) h) ≤ length (now buf)) ⌝ }
+    ensures { λ r. ⌜ Put (now (buf .entry)) at (opensOf (framesOf (now (tags .entry)) (now (nodes .entry)) (now (integers .entry))) h) (now (buf .exit)) r ⌝ }
+{
+    let mut p = at;
+    let mut j = 0;
+    while j < h {
+        let f = stepper::place_of(tags[j], nodes[j], integers[j]);
+        p = put_opening(f, buf, p);
+        j += 1;
+    }
+    p
+}
+
+// What closes them, the innermost first.
+fn put_closes(
+    b: &[u8],
+    tags: &[u8],
+    nodes: &[u32],
+    integers: &[i32],
+    h: usize,
+    x: Work,
+    buf: &mut [u8],
+    at: usize,
+) -> usize
+    requires { ⌜ Stands (now b) (framesOf (now tags) (now nodes) (now integers)) h x × (at + length (closes (stack (now b) (framesOf (now tags) (now nodes) (now integers)) h)) ≤ length (now buf)) ⌝ }
+    ensures { λ r. ⌜ Put (now (buf .entry)) at (closes (stack (now (b .entry)) (framesOf (now (tags .entry)) (now (nodes .entry)) (now (integers .entry))) h)) (now (buf .exit)) r ⌝ }
+{
+    let mut p = at;
+    let mut j = h;
+    while 0 < j {
+        j -= 1;
+        let f = stepper::place_of(tags[j], nodes[j], integers[j]);
+        p = put_closing(b, f, buf, p);
+    }
+    p
+}
+
+pub fn put_moment(
+    b: &[u8],
+    tags: &[u8],
+    nodes: &[u32],
+    integers: &[i32],
+    h: usize,
+    x: Work,
+    buf: &mut [u8],
+    at: usize,
+) -> usize
+    requires { ⌜ Stands (now b) (framesOf (now tags) (now nodes) (now integers)) h x × (at + length (momentText (now b) (framesOf (now tags) (now nodes) (now integers)) h x) ≤ length (now buf)) ⌝ }
+    ensures { λ r. ⌜ Put (now (buf .entry)) at (momentText (now (b .entry)) (framesOf (now (tags .entry)) (now (nodes .entry)) (now (integers .entry))) h x) (now (buf .exit)) r ⌝ }
+{
+    let p = put_opens(tags, nodes, integers, h, buf, at);
+    let q = put_work(b, x, buf, p);
+    put_closes(b, tags, nodes, integers, h, x, buf, q)
+}
+
+// The length of what opens and closes a place.
+fn place_length(b: &[u8], f: Place, lengths: &[u32]) -> usize
+    requires { ⌜ Runnable (now b) × Held (now b) f × Measured (now b) (now lengths) ⌝ }
+    ensures { λ r. ⌜ (r ≡ length (openingOf f) + length (closing (contextOf (now (b .entry)) f))) × (r ≤ 400000) ⌝ }
+{
+    match f {
+        Place::Blank => 9,
+        Place::PlusLeft(i) => 5 + writer::length_in(lengths, routine::second_at(b, i)),
+        Place::GeqLeft(i) => 6 + writer::length_in(lengths, routine::second_at(b, i)),
+        Place::PlusRight(_, n) => 5 + writer::number_width(n),
+        Place::GeqRight(_, n) => 6 + writer::number_width(n),
+        Place::Test(i) => {
+            let t = writer::length_in(lengths, routine::second_at(b, i));
+            17 + t + writer::length_in(lengths, routine::third_at(b, i))
+        }
+        Place::Again(i) => {
+            let t = writer::length_in(lengths, routine::second_at(b, i));
+            26 + t + writer::length_in(lengths, i)
+        }
+        Place::Store(l) => 7 + writer::width(l as u64),
+        Place::First(j) => 5 + writer::length_in(lengths, j),
+    }
+}
+
+fn work_length(b: &[u8], x: Work, lengths: &[u32]) -> usize
+    requires { ⌜ Runnable (now b) × Seen (now b) x × Measured (now b) (now lengths) ⌝ }
+    ensures { λ r. ⌜ (r ≡ length (text (exprOf (now (b .entry)) x))) × (r ≤ 200000) ⌝ }
+{
+    match x {
+        Work::Node(i) => writer::length_in(lengths, i as u32),
+        Work::Int(n) => writer::number_width(n),
+        Work::Bool(t) => writer::truth_width(t),
+        Work::Skip => 4,
+    }
+}
+
+pub fn moment_length(
+    b: &[u8],
+    tags: &[u8],
+    nodes: &[u32],
+    integers: &[i32],
+    h: usize,
+    x: Work,
+    lengths: &[u32],
+) -> usize
+    requires { ⌜ Stands (now b) (framesOf (now tags) (now nodes) (now integers)) h x × Measured (now b) (now lengths) ⌝ }
+    ensures { λ r. ⌜ (r ≡ length (momentText (now (b .entry)) (framesOf (now (tags .entry)) (now (nodes .entry)) (now (integers .entry))) h x)) × (r < 1000000000) ⌝ }
+{
+    let mut r = work_length(b, x, lengths);
+    let mut j = 0;
+    while j < h {
+        let f = stepper::place_of(tags[j], nodes[j], integers[j]);
+        r += place_length(b, f, lengths);
+        j += 1;
+    }
+    r
+}

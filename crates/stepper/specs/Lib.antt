@@ -1,0 +1,2 @@
+-- What the stepper promises.
+pub mod Lent  -- the pending places that lent slices of numbers stand for

@@ -1,0 +1,3 @@
+-- The laws of the text.
+pub mod Showing  -- what is shown of the routine's own locations is the text's answer
+pub mod OneAnswer  -- the contract of the text leaves one answer
