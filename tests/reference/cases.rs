@@ -2,6 +2,7 @@
 
 use crate::build::*;
 use crate::expr::Tree;
+use crate::inputs::inputs;
 use crate::routine::{store_nodes, store_routine, with_header};
 use crate::rows::Row;
 
@@ -10,7 +11,7 @@ pub struct Case {
     pub row: Row,
 }
 
-fn case(name: &str, bytes: Vec<u8>, fuel: u32, store: Vec<i32>) -> Case {
+pub fn case(name: &str, bytes: Vec<u8>, fuel: u32, store: Vec<i32>) -> Case {
     Case { name: name.to_string(), row: Row { bytes, fuel, store } }
 }
 
@@ -19,7 +20,7 @@ fn tree_case(name: &str, m: u8, tree: Tree) -> Case {
     case(name, store_routine(m, &tree), 100, vec![0; m as usize])
 }
 
-fn countdown() -> Tree {
+pub fn countdown() -> Tree {
     whilst(geq(deref(0), int(1)), assign(0, plus(deref(0), int(-1))))
 }
 
@@ -173,5 +174,6 @@ pub fn cases() -> Vec<Case> {
     all.extend(mistakes());
     all.extend(limits());
     all.extend(damage());
+    all.extend(inputs());
     all
 }

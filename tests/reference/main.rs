@@ -8,6 +8,7 @@ mod expr;
 mod generate;
 mod good;
 mod illtyped;
+mod inputs;
 mod limits;
 mod random;
 mod refusal;
@@ -27,6 +28,9 @@ use refusal::Refusal;
 use rows::{read_rows, Row};
 use std::io::{self, BufWriter, Read, Write};
 use typing::Type;
+
+/// The first room of `texts`.
+const LARGE_ROOM: usize = 65_536;
 
 fn main() {
     let arguments: Vec<String> = std::env::args().skip(1).collect();
@@ -52,6 +56,12 @@ fn obey(words: &[&str], out: &mut impl Write) -> io::Result<()> {
             let rows = read_rows(&input(u64::MAX)?);
             out.write_all(&rows::trace_input(&rows[number(i) as usize]))
         }
+        ["traces"] => {
+            let rows = read_rows(&input(u64::MAX)?);
+            rows.iter().try_for_each(|row| trace::trace(&rows::whole_input(row), out))
+        }
+        ["texts"] => read_rows(&input(u64::MAX)?).iter().try_for_each(|row| text_lines(row, out)),
+        ["short", bytes, printed] => short_rows(number(bytes) as usize, number(printed) as usize, out),
         ["cases"] => cases::cases().iter().try_for_each(|case| out.write_all(&rows::record(&case.row))),
         ["names"] => cases::cases().iter().try_for_each(|case| writeln!(out, "{}", case.name)),
         ["generate", kind, seed, count] => generate::generate(kind, number(seed), number(count), out),
@@ -60,7 +70,7 @@ fn obey(words: &[&str], out: &mut impl Write) -> io::Result<()> {
 }
 
 fn usage() -> ! {
-    eprintln!("check | run | text K ROOM | show | trace | traceinput I | cases | names | generate KIND SEED COUNT");
+    eprintln!("check | run | text K ROOM | show | trace | traceinput I | traces | texts | short BYTES PRINTED | cases | names | generate KIND SEED COUNT");
     std::process::exit(2)
 }
 
@@ -104,6 +114,34 @@ fn run_line(row: &Row) -> Result<String, Refusal> {
 fn text_line(row: &Row, k: u32, room: usize) -> Result<String, Refusal> {
     let (text, steps) = run::text_after(&row.bytes, &row.store, k, room)?;
     Ok(format!("{} {steps} {text}", text.len()))
+}
+
+/// The text after as many steps as the row's fuel, in a large room, and where one was written, with a byte too little room and with just enough.
+fn text_lines(row: &Row, out: &mut impl Write) -> io::Result<()> {
+    let mut rooms = vec![LARGE_ROOM];
+    if let Ok((text, _)) = run::text_after(&row.bytes, &row.store, row.fuel, LARGE_ROOM) {
+        rooms.extend([text.len() - 1, text.len()]);
+    }
+    for room in rooms {
+        match text_line(row, row.fuel, room) {
+            Ok(answer) => writeln!(out, "{answer}")?,
+            Err(refusal) => writeln!(out, "{refusal}")?,
+        }
+    }
+    Ok(())
+}
+
+/// The records of at most so many bytes for which `traces` prints at most so many.
+fn short_rows(bytes: usize, printed: usize, out: &mut impl Write) -> io::Result<()> {
+    for row in read_rows(&input(u64::MAX)?) {
+        let record = rows::record(&row);
+        let mut lines = Vec::new();
+        trace::trace(&rows::whole_input(&row), &mut lines)?;
+        if record.len() <= bytes && lines.len() <= printed {
+            out.write_all(&record)?;
+        }
+    }
+    Ok(())
 }
 
 fn show_line(row: &Row) -> Result<String, Refusal> {

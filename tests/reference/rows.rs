@@ -72,3 +72,13 @@ pub fn trace_input(row: &Row) -> Vec<u8> {
     }
     out
 }
+
+/// The record as an input for `trace`: the row's bytes, the fuel, and all the entries of the store, which need not be m.
+pub fn whole_input(row: &Row) -> Vec<u8> {
+    let mut out = row.bytes.clone();
+    out.extend(row.fuel.to_be_bytes());
+    for value in &row.store {
+        out.extend(value.to_be_bytes());
+    }
+    out
+}

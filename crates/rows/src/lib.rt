@@ -38,6 +38,26 @@ pub fn two(b: &[u8], at: usize) -> usize
     0
 }
 
+// The number in four bytes, of which those past the end count as 0.
+pub fn four(b: &[u8], at: usize) -> u32
+    requires { ⌜ at ≤ 1000000 ⌝ }
+{
+    let high = two(b, at);
+    let low = two(b, at + 2);
+    (high * 65536 + low) as u32
+}
+
+// The entries of a store, from their bytes.
+pub fn fill(b: &[u8], s: &mut [i32])
+    requires { ⌜ length (now s) ≤ 1000 ⌝ }
+{
+    let mut i = 0;
+    while i < s.len() {
+        s[i] = routine::signed_of(four(b, 4 * i));
+        i += 1;
+    }
+}
+
 // Reads n bytes to the start of the room, fewer where the input ends.
 pub fn take(room: &mut [u8], n: usize) -> usize
     requires { ⌜ n ≤ length (now room) ⌝ }

@@ -62,26 +62,6 @@ fn run_row(b: &[u8], s: &mut [i32], fuel: u32) {
     rows::print(b"\n");
 }
 
-// The number in four bytes.
-fn four(b: &[u8], at: usize) -> u32
-    requires { ⌜ at ≤ 1000000 ⌝ }
-{
-    let high = rows::two(b, at);
-    let low = rows::two(b, at + 2);
-    (high * 65536 + low) as u32
-}
-
-// The entries of a store, from their bytes.
-fn fill(b: &[u8], s: &mut [i32])
-    requires { ⌜ length (now s) ≤ 1000 ⌝ }
-{
-    let mut i = 0;
-    while i < s.len() {
-        s[i] = routine::signed_of(four(b, 4 * i));
-        i += 1;
-    }
-}
-
 // Reads one record and runs its row; false at the end of the input, and at a record with more entries than the store has room for.
 fn one_row(room: &mut [u8], store: &mut [i32]) -> bool
     requires { ⌜ (65536 ≤ length (now room)) × (1000 ≤ length (now store)) ⌝ }
@@ -90,13 +70,13 @@ fn one_row(room: &mut [u8], store: &mut [i32]) -> bool
         return false;
     }
     let bytes = rows::two(room, 0);
-    let fuel = four(room, 2);
+    let fuel = rows::four(room, 2);
     let entries = rows::two(room, 6);
     if 1000 < entries {
         return false;
     }
     rows::take(room, 4 * entries);
-    fill(room, &mut store[..entries]);
+    rows::fill(room, &mut store[..entries]);
     let n = rows::take(room, bytes);
     run_row(&room[..n], &mut store[..entries], fuel);
     true

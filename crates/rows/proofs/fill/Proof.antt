@@ -1,11 +1,11 @@
--- `run_rows::fill` is safe and ends.
+-- `rows::fill` is safe and ends.
 use Prim.Native.Nat.{_≤_, _-_}
 use native.Mathlib.Omega.{arith}
 use mathlib.Core.Path.{_≡_}
 use borrow.Author.Needs.{needs}
 use lib.ListN.{length, length-set}
-use Rattle.run_rows.proofs.fill.Statement.{statement}
-use Rattle.run_rows.proofs.fill.Tie as tie
+use Rattle.rows.proofs.fill.Statement.{statement}
+use Rattle.rows.proofs.fill.Tie as tie
 
 abbrev Inv-loop : tie.InvT-loop
 Inv-loop b s₀ i₀ s i = (length s ≤ 1000) × (length s ≡ length s₀) × (i ≤ length s)

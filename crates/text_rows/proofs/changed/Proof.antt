@@ -1,0 +1,28 @@
+-- `text_rows::changed` is safe and ends.
+use Prim.Native.Nat.{_≤_, _-_}
+use native.Mathlib.Omega.{arith}
+use mathlib.Core.Path.{_≡_}
+use borrow.Author.Needs.{needs}
+use lib.ListN.{length}
+use Rattle.text_rows.proofs.changed.Statement.{statement}
+use Rattle.text_rows.proofs.changed.Tie as tie
+
+abbrev Inv-loop : tie.InvT-loop
+Inv-loop buf at i₀ i = at ≤ i
+
+abbrev μ-loop : tie.MeasureT-loop
+μ-loop buf at i₀ i = length buf - i
+
+pub changed-spec : {M : Type 1} → statement M
+changed-spec =
+    tie.close
+    (tie.spec
+    Inv-loop
+    μ-loop
+    (λ c. search needs)
+    (λ c. search needs)
+    (λ c. search needs)
+    (λ c. search needs)
+    (λ c. omega arith)
+    (λ c. omega arith)
+    (λ c. search needs))

@@ -1,0 +1,24 @@
+-- `trace_rows::put_fuel` is safe: four bytes of room are left behind the row.
+use native.Mathlib.Omega.{arith}
+use lib.ListN.{length-set}
+use borrow.Author.Needs.{needs}
+use Rattle.trace_rows.proofs.put_fuel.Statement.{statement}
+use Rattle.trace_rows.proofs.put_fuel.Tie as tie
+
+pub put-fuel-spec : {M : Type 1} → statement M
+put-fuel-spec =
+    tie.close
+    (tie.spec
+    (λ c. search needs)
+    (λ c. search needs)
+    (λ c. search needs)
+    (λ c. search needs)
+    (λ c. simp length-set (omega arith))
+    (λ c. search needs)
+    (λ c. search needs)
+    (λ c. simp length-set (omega arith))
+    (λ c. search needs)
+    (λ c. search needs)
+    (λ c. simp length-set (omega arith))
+    (λ c. search needs)
+    (λ c. search needs))
