@@ -1,10 +1,12 @@
 //! How fast the proved check is beside a plain safe one in Rust, in one process: the same rows, the same answers, rows a second of each.
 
 mod plain;
+#[path = "../random.rs"]
+mod random;
 mod rows;
 
 use plain::{Checker, Refusal, Told, Ty};
-use rows::Random;
+use random::Random;
 use std::hint::black_box;
 use std::time::Instant;
 

@@ -1,10 +1,12 @@
 //! How fast the proved run is beside a plain safe one in Rust, in one process: the same rows, the same answers, steps a second of each.
 
 mod plain;
+#[path = "../random.rs"]
+mod random;
 mod rows;
 
 use plain::{Ended, Machine, Outcome, Value};
-use rows::Random;
+use random::Random;
 use std::hint::black_box;
 use std::time::Instant;
 
@@ -99,5 +101,5 @@ fn main() {
     bench("tight loop", &rows::tight_loop(), u32::MAX, 200);
     bench("depth 256, to the left", &rows::deep_left(&mut random), fuel, 200);
     bench("depth 256, to the right", &rows::deep_right(&mut random), fuel, 200);
-    bench("straight", &rows::straight(&mut random), fuel, 200);
+    bench("straight", &rows::straight(&mut random, 800), fuel, 200);
 }

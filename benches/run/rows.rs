@@ -1,22 +1,6 @@
 //! The routines of the bench, and random typed ones for the comparison.
 
-/// splitmix64
-pub struct Random(pub u64);
-
-impl Random {
-    pub fn next(&mut self) -> u64 {
-        self.0 = self.0.wrapping_add(0x9E37_79B9_7F4A_7C15);
-        let mut z = self.0;
-        z = (z ^ (z >> 30)).wrapping_mul(0xBF58_476D_1CE4_E5B9);
-        z = (z ^ (z >> 27)).wrapping_mul(0x94D0_49BB_1331_11EB);
-        z ^ (z >> 31)
-    }
-
-    /// 0 to count - 1.
-    pub fn below(&mut self, count: usize) -> usize {
-        (self.next() % count as u64) as usize
-    }
-}
+use crate::random::Random;
 
 #[derive(Clone, Copy)]
 enum Ty {
@@ -26,10 +10,10 @@ enum Ty {
 }
 
 /// Nodes in post-order: each function adds one and gives its number.
-struct Nodes(Vec<[u8; 8]>);
+pub struct Nodes(pub Vec<[u8; 8]>);
 
 impl Nodes {
-    fn add(&mut self, kind: u8, arg: u8, children: &[usize]) -> usize {
+    pub fn add(&mut self, kind: u8, arg: u8, children: &[usize]) -> usize {
         let mut node = [kind, arg, 0, 0, 0, 0, 0, 0];
         for (k, &c) in children.iter().enumerate() {
             node[2 + 2 * k..4 + 2 * k].copy_from_slice(&(c as u16).to_be_bytes());
@@ -38,13 +22,13 @@ impl Nodes {
         self.0.len() - 1
     }
 
-    fn int(&mut self, n: i32) -> usize {
+    pub fn int(&mut self, n: i32) -> usize {
         let [a, b, c, d] = n.to_be_bytes();
         self.0.push([0, 0, 0, 0, a, b, c, d]);
         self.0.len() - 1
     }
 
-    fn boolean(&mut self, t: bool) -> usize {
+    pub fn boolean(&mut self, t: bool) -> usize {
         self.add(1, t as u8, &[])
     }
 
@@ -52,7 +36,7 @@ impl Nodes {
         self.add(6, l as u8, &[])
     }
 
-    fn bytes(self, m: usize) -> Vec<u8> {
+    pub fn bytes(self, m: usize) -> Vec<u8> {
         let mut bytes = Vec::new();
         bytes.extend(((4 + 8 * self.0.len()) as u16).to_be_bytes());
         bytes.extend([1, m as u8]);
@@ -185,13 +169,13 @@ pub fn deep_right(random: &mut Random) -> Vec<u8> {
     })
 }
 
-/// 800 assignments: 4,001 nodes with the loop.
-pub fn straight(random: &mut Random) -> Vec<u8> {
-    Nodes(Vec::new()).endless(|nodes| nodes.assignments(random, 800))
+/// So many assignments in an endless loop: of 800, 4,001 nodes in all.
+pub fn straight(random: &mut Random, count: usize) -> Vec<u8> {
+    Nodes(Vec::new()).endless(|nodes| nodes.assignments(random, count))
 }
 
 pub fn random(random: &mut Random) -> Vec<u8> {
-    let ty = [Ty::Int, Ty::Bool, Ty::Unit, Ty::Unit][random.below(4)];
+    let ty = random.pick(&[Ty::Int, Ty::Bool, Ty::Unit, Ty::Unit]);
     let depth = 1 + random.below(7);
     let mut nodes = Nodes(Vec::new());
     nodes.tree(random, ty, depth);
