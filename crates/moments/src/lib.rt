@@ -11,7 +11,7 @@ ghost use Rattle.stored.specs.Layout.{child2, child3};
 ghost use Rattle.stored.specs.Refusals.{count};
 ghost use Rattle.routine.specs.Open.{Runnable};
 ghost use Rattle.machine.specs.State.{exprOf, Seen, Held, contextOf, stack};
-ghost use Rattle.stepper.specs.Lent.{framesOf};
+ghost use Rattle.stepper.specs.Lent.{placeOf, framesOf};
 ghost use Rattle.writer.specs.Put.{Put};
 ghost use Rattle.writer.specs.Pieces.{textAt};
 ghost use Rattle.moments.specs.Around.{opening, closing, closes, openingOf, opensOf};
@@ -194,6 +194,17 @@ fn place_length(b: &[u8], f: Place, lengths: &[u32]) -> usize
     }
 }
 
+// The same from the lent slices. A moment with many loops under way has little else than places of the tag 8, a first part: they are asked for before the others.
+fn lent_length(b: &[u8], tag: u8, i: u32, n: i32, lengths: &[u32]) -> usize
+    requires { ⌜ Runnable (now b) × Held (now b) (placeOf tag i n) × Measured (now b) (now lengths) ⌝ }
+    ensures { λ r. ⌜ (r ≡ length (openingOf (placeOf tag i n)) + length (closing (contextOf (now (b .entry)) (placeOf tag i n)))) × (r ≤ 400000) ⌝ }
+{
+    if tag == 8 {
+        return 5 + writer::length_in(lengths, i);
+    }
+    place_length(b, stepper::place_of(tag, i, n), lengths)
+}
+
 fn work_length(b: &[u8], x: Work, lengths: &[u32]) -> usize
     requires { ⌜ Runnable (now b) × Seen (now b) x × Measured (now b) (now lengths) ⌝ }
     ensures { λ r. ⌜ (r ≡ length (text (exprOf (now (b .entry)) x))) × (r ≤ 200000) ⌝ }
@@ -221,8 +232,7 @@ pub fn moment_length(
     let mut r = work_length(b, x, lengths);
     let mut j = 0;
     while j < h {
-        let f = stepper::place_of(tags[j], nodes[j], integers[j]);
-        r += place_length(b, f, lengths);
+        r += lent_length(b, tags[j], nodes[j], integers[j], lengths);
         j += 1;
     }
     r

@@ -2,11 +2,12 @@
 -- The measure is what is left of the places.
 use Prim.Native.Nat.{ℕ, suc, _+_, _-_, _*_, _≤_, _<_}
 use native.Mathlib.Omega.{arith}
-use mathlib.Core.Path.{_≡_, sym, ap, subst}
+use mathlib.Core.Path.{_≡_, refl, sym, ap, subst}
 use mathlib.Core.List.{List}
 use lib.IntN.{pos}
 use lib.ListN.{length, getD, length-append}
 use mir.Syntax.{w32}
+use mir.Val.{toZ, ofZ}
 use mir.ValLaws.{toZ-ofZ}
 use denote.Ref.{now}
 use borrow.Author.Needs.{needs}
@@ -14,7 +15,7 @@ use Rattle.l1.specs.Text.{text}
 use Rattle.machine.specs.State.{exprOf, contextOf, Held, blank, stack}
 use Rattle.machine.specs.declared.Frame.{Frame}
 use Rattle.machine.specs.declared.Work.{Work}
-use Rattle.stepper.specs.Lent.{framesOf}
+use Rattle.stepper.specs.Lent.{placeOf, framesOf}
 use Rattle.stepper.proofs.LentPlaces.{place-read, frames-fit}
 use Rattle.moments.specs.Around.{closing, closes, openingOf, opensOf}
 use Rattle.moments.specs.Stand.{momentText}
@@ -65,28 +66,29 @@ room c =
     (omega arith, omega arith, omega arith, omega arith)
 
 -- the place that is read is the one among the frames
-abbrev head : tie.After-place-of Inv-loop μ-loop → tie.At-loop Inv-loop μ-loop
-head c = c .before .before .before .before .before
+abbrev head : tie.After-lent-length-arg Inv-loop μ-loop → tie.At-loop Inv-loop μ-loop
+head c = c .before .before .before .before
 
-place-is : (c : tie.After-place-of Inv-loop μ-loop) → c .place-of .result ≡ getD (frames (head c)) (head c .loop .j) blank .place
+place-is : (c : tie.After-lent-length-arg Inv-loop μ-loop)
+    → let a = entry (head c) .args in let j = head c .loop .j in
+    placeOf (getD (now (a .tags)) j 0) (getD (now (a .nodes)) j 0) (toZ w32 (ofZ w32 (getD (now (a .integers)) j (pos 0)))) ≡ getD (frames (head c)) j blank .place
 place-is c =
     let s = entry (head c) in
     let j = head c .loop .j in
     let ns = now (s .args .integers) in
-    place-read (now (s .args .tags)) (now (s .args .nodes)) ns j (rw (s .pre .0 .frames) (room (c .before .before .before .before) .3))
-    (toZ-ofZ w32 (getD ns j (pos 0)) (search needs)) (c .place-of .ensures)
+    place-read (now (s .args .tags)) (now (s .args .nodes)) ns j (rw (s .pre .0 .frames) (room (c .before .before .before) .3))
+    (toZ-ofZ w32 (getD ns j (pos 0)) (search needs)) refl
 
-place-held : tie.Need-place-length-requires Inv-loop μ-loop
+place-held : tie.Need-lent-length-requires Inv-loop μ-loop
 place-held c κs =
     let p = entry (head c) .pre in
-    let low = c .before .before .before .before .loop-test .taken in
-    (p .0 .runnable, subst (Held _) (sym (place-is c)) (p .0 .held (head c .loop .j) low), p .1)
+    (p .0 .runnable, subst (Held _) (sym (place-is c)) (p .0 .held (head c .loop .j) (c .before .before .before .loop-test .taken)), p .1)
 
 again : tie.Need-loop-again Inv-loop μ-loop
 again c =
     let l = head (c .before) in
-    let e = rw (place-is (c .before)) at (c .place-length .ensures) in
-    omega (arith, e, around-more (bytes l) (frames l) (l .loop .j), l .loop .inv, c .before .before .before .before .before .loop-test .taken)
+    let e = rw (place-is (c .before)) at (c .lent-length .ensures) in
+    omega (arith, e, around-more (bytes l) (frames l) (l .loop .j), l .loop .inv, c .before .before .before .before .loop-test .taken)
 
 all-places : tie.Need-returns Inv-loop μ-loop
 all-places c =
@@ -109,9 +111,8 @@ moment-length-spec =
     (λ c. room (c .before .before) .1)
     (λ c. omega (arith, room (c .before .before) .3))
     (λ c. room (c .before .before) .2)
-    (λ c κs. tt)
     place-held
-    (λ c. omega (arith, c .place-length .ensures .1, room (c .before .before .before .before .before) .3, head (c .before) .loop .inv .2))
+    (λ c. omega (arith, c .lent-length .ensures .1, room (c .before .before .before .before) .3, head (c .before) .loop .inv .2))
     (λ c. omega arith)
     (λ c. omega arith)
     again

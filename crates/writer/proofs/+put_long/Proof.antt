@@ -1,48 +1,46 @@
--- `writer::put_decimal` meets its contract: the digits before the last, and the last. The measure is the number.
+-- `writer::put_long` meets its contract: the digits before the last, and the last. The measure is the number.
 use Prim.Native.Nat.{ℕ, _+_, _/_, _%_, _<_}
 use native.Mathlib.Omega.{arith}
-use mathlib.Core.Path.{_≡_, _∙_, ap}
+use mathlib.Core.Path.{ap}
 use mathlib.Core.List.{[], _∷_}
 use lib.ListN.{length}
 use borrow.Author.Needs.{needs}
 use borrow.Fn.Kinds.{In}
 use borrow.Fn.PlainCycle.{Measures, is, falls, and}
 use Rattle.l1.specs.Text.{decimal}
-use Rattle.l1.proofs.Decimal.{decimal-one, decimal-more}
+use Rattle.l1.proofs.Decimal.{decimal-more}
+use Rattle.writer.proofs.Digits.{one-digit}
 use Rattle.writer.proofs.PutLaws.{put-more, room-first, room-rest}
-use Rattle.writer.proofs.put_decimal.Reads as put-decimal
-use Rattle.writer.proofs.put_decimal.Kinds as put-decimal-kinds
-use Rattle.writer.proofs.+put_decimal.Lts-put_decimal as put-decimal-lts
+use Rattle.writer.proofs.put_long.Reads as put-long
+use Rattle.writer.proofs.put_long.Kinds as put-long-kinds
+use Rattle.writer.proofs.+put_long.Lts-put_long as put-long-lts
 use Rattle.writer.proofs.digit.Reads as digit-reads
 use Rattle.writer.proofs.put_byte.Reads as put-byte-reads
-use Rattle.writer.proofs.+put_decimal.{statement}
-use Rattle.writer.proofs.+put_decimal.Tie.{close}
+use Rattle.writer.proofs.+put_long.{statement}
+use Rattle.writer.proofs.+put_long.Tie.{close}
 
-one-digit : (n : ℕ) → n < 10 → decimal n ≡ (48 + n % 10) ∷ []
-one-digit n h = decimal-one n h ∙ ap (λ (d : ℕ). (48 + d) ∷ []) (omega arith)
+abbrev μ-put-long : Measures 1 put-long-kinds.ps ℕ
+μ-put-long κs a = a .0
 
-abbrev μ-put-decimal : Measures 1 put-decimal-kinds.ps ℕ
-μ-put-decimal κs a = a .0
+abbrev put-long-at : ℕ → In 1 put-long-kinds.ps
+put-long-at t =
+    and 1 put-long-kinds.ps (is 1 put-long-kinds.ps μ-put-long t) put-long.Pre
 
-abbrev put-decimal-at : ℕ → In 1 put-decimal-kinds.ps
-put-decimal-at t =
-    and 1 put-decimal-kinds.ps (is 1 put-decimal-kinds.ps μ-put-decimal t) put-decimal.Pre
+abbrev put-long-below : ℕ → In 1 put-long-kinds.ps
+put-long-below t =
+    and 1 put-long-kinds.ps (falls 1 put-long-kinds.ps _<_ μ-put-long t) put-long.Pre
 
-abbrev put-decimal-below : ℕ → In 1 put-decimal-kinds.ps
-put-decimal-below t =
-    and 1 put-decimal-kinds.ps (falls 1 put-decimal-kinds.ps _<_ μ-put-decimal t) put-decimal.Pre
-
-pub +put-decimal-spec : {M : Type 1} → statement M
-+put-decimal-spec = close μ-put-decimal λ t. put-decimal-lts.spec (
+pub +put-long-spec : {M : Type 1} → statement M
++put-long-spec = close μ-put-long λ t. put-long-lts.spec (
   digit-reads.Asked,
   digit-reads.Learnt,
   put-byte-reads.Asked,
   put-byte-reads.Learnt,
-  put-decimal-below t,
-  put-decimal.Post,
+  put-long-below t,
+  put-long.Post,
 )
-    (put-decimal-at t)
-    put-decimal.Post
+    (put-long-at t)
+    put-long.Post
     (λ c κs. search needs)
     (λ c κs.
     let s = c .before .before .before .before in
@@ -59,7 +57,7 @@ pub +put-decimal-spec : {M : Type 1} → statement M
     let p = c .before .before .before .before in
     let s = p .before .before .before .before in
     let room = rw (decimal-more (s .args .n) (p .before .before .if1 .left)) at (s .pre .1) in
-    omega (arith, room-rest ((48 + s .args .n % 10) ∷ []) (p .put-decimal .ensures) room))
+    omega (arith, room-rest ((48 + s .args .n % 10) ∷ []) (p .put-long .ensures) room))
     (λ c. search needs)
     (λ c.
     let p = c .before .before in
@@ -70,4 +68,4 @@ pub +put-decimal-spec : {M : Type 1} → statement M
     let p = c .before .before in
     let d = p .before .before in
     let q = d .before .before .before in
-    rw (decimal-more _ (q .before .before .if1 .left), ← d .digit2 .ensures) (put-more (q .put-decimal .ensures) (p .put-byte2 .ensures)))
+    rw (decimal-more _ (q .before .before .if1 .left), ← d .digit2 .ensures) (put-more (q .put-long .ensures) (p .put-byte2 .ensures)))
