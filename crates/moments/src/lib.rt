@@ -94,7 +94,7 @@ fn put_closing(b: &[u8], f: Place, buf: &mut [u8], at: usize) -> usize
     }
 }
 
-pub fn put_work(b: &[u8], x: Work, buf: &mut [u8], at: usize) -> usize
+fn put_work(b: &[u8], x: Work, buf: &mut [u8], at: usize) -> usize
     requires { ⌜ Runnable (now b) × Seen (now b) x × (at + length (text (exprOf (now b) x)) ≤ length (now buf)) ⌝ }
     ensures { λ r. ⌜ Put (now (buf .entry)) at (text (exprOf (now (b .entry)) x)) (now (buf .exit)) r ⌝ }
 {

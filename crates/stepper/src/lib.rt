@@ -20,7 +20,7 @@ pub struct Stand {
     pub machine: Machine,
 }
 
-pub fn tag_of(f: Place) -> u8
+fn tag_of(f: Place) -> u8
     ensures { λ r. ⌜ r ≡ tagOf f ⌝ }
 {
     match f {

@@ -68,7 +68,7 @@ fn put_long(n: u64, buf: &mut [u8], at: usize) -> usize
     }
 }
 
-// Most numbers of a row have one digit or two, and those without a call took a tenth to a fifth off the time of a trace.
+// Most numbers of a row have one digit or two: a call for each digit of these makes a trace slower by up to a sixth.
 pub fn put_decimal(n: u64, buf: &mut [u8], at: usize) -> usize
     requires { ⌜ at + length (decimal n) ≤ length (now buf) ⌝ }
     ensures { λ r. ⌜ Put (now (buf .entry)) at (decimal n) (now (buf .exit)) r ⌝ }
@@ -221,7 +221,7 @@ pub fn put_tree(b: &[u8], i: u32, buf: &mut [u8], at: usize) -> usize
 }
 
 // What follows the first child of node i.
-pub fn put_after(b: &[u8], i: u32, buf: &mut [u8], at: usize) -> usize
+fn put_after(b: &[u8], i: u32, buf: &mut [u8], at: usize) -> usize
     requires { ⌜ Runnable (now b) × (i < count (now b)) × (1 ≤ arityOf (formAt (now b) i)) × (at + length (afterAt (now b) i) ≤ length (now buf)) ⌝ }
     ensures { λ r. ⌜ Put (now (buf .entry)) at (afterAt (now (b .entry)) i) (now (buf .exit)) r ⌝ }
 {
