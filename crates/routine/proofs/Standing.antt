@@ -4,17 +4,19 @@ use native.Mathlib.Nat.{zero-add}
 use native.Mathlib.Omega.{arith}
 use mathlib.Core.Path.{_≡_}
 use mathlib.Core.List.{List}
+use lib.ListN.{length}
 use Rattle.l1.specs.Measures.{size, depth}
 use Rattle.l1.specs.Refused.{nodes, Node}
 use Rattle.l1.proofs.Nodes.{nth-some, nodes-length}
-use Rattle.stored.specs.Layout.{TreeAt}
+use Rattle.stored.specs.Layout.{start, TreeAt}
 use Rattle.stored.specs.Reader.{treeAt, StandBelow}
 use Rattle.stored.specs.Refusals.{count, Holds}
 use Rattle.stored.specs.Answers.{Headed, Opens}
 use Rattle.stored.proofs.Opens.{headed, all-nodes, not-deep}
 use Rattle.stored.proofs.Subtrees.{subtrees}
 use Rattle.stored.proofs.Reader.{read-tree}
-use Rattle.routine.specs.Open.{rootOf}
+use Rattle.routine.specs.declared.Sizes.{Sizes}
+use Rattle.routine.specs.Open.{rootOf, SizesOf, IsOpen, Runnable}
 
 module _ {b : List ℕ} (o : Opens b) (h : Holds b (rootOf b)) where
   -- the sizes are within the limits: `Headed` has them
@@ -41,3 +43,11 @@ module _ {b : List ℕ} (o : Opens b) (h : Holds b (rootOf b)) where
 
   pub root-nodes : (i : ℕ) → i < count b → Node (rootOf b) i (treeAt b i)
   root-nodes i l = both i l .1
+
+-- the eight bytes of a node are there
+pub node-bytes : {b : List ℕ} {z : Sizes} {i : ℕ} → IsOpen b z → i < z .nodes → start (i + 1) ≤ length b
+node-bytes o h = omega (arith, o .sizes .0, is-headed (o .opens) (o .holds) .all-bytes)
+
+-- what the reading of node i asks, of a routine that may be run
+pub may-read : {b : List ℕ} {z : Sizes} {i : ℕ} → Runnable b → SizesOf b z → i < count b → IsOpen b z × (i < z .nodes)
+may-read ok sizes h = (record { sizes = sizes; opens = ok .opens; holds = ok .holds }, omega (arith, sizes .0))

@@ -7,6 +7,7 @@ ghost use Rattle.stored.specs.Layout.{start, kind, arg, child1, child2, child3}
 ghost use Rattle.stored.specs.Refusals.{number};
 ghost use Rattle.routine.specs.Forms.{formOf, kindOf, digitOf, arityOf, nodeOf, integerOf};
 ghost use Rattle.routine.specs.Says.{refusalOf, returned};
+ghost use Rattle.routine.specs.Open.{IsOpen};
 
 // Why a row is refused: a case for each of 01's numbers, with what the number also returns.
 pub enum Refusal {
@@ -186,40 +187,53 @@ pub fn node_at(b: &[u8], i: usize) -> Node
     }
 }
 
+// Node i of a routine that was opened, read through a view: callers need no walk of their own.
+pub fn read(bytes: &[u8], sizes: Sizes, i: usize) -> Node
+    requires { ⌜ IsOpen (now bytes) sizes × (i < sizes .nodes) ⌝ }
+    ensures { λ d. ⌜ d ≡ nodeOf (now (bytes .entry)) i ⌝ }
+{
+    node_at(bytes, i)
+}
+
 // The parts of node i one at a time, for those that need no whole node.
-pub fn form_at(b: &[u8], i: u32) -> Form
-    requires { ⌜ start (i + 1) ≤ length (now b) ⌝ }
+pub fn form_at(b: &[u8], z: Sizes, i: u32) -> Form
+    requires { ⌜ IsOpen (now b) z × (i < z .nodes) ⌝ }
     ensures { λ r. ⌜ r ≡ formOf (kind (now (b .entry)) i) ⌝ }
 {
-    form_of(b[6 + 8 * (i as usize)])
+    let d = read(b, z, i as usize);
+    d.form
 }
 
-pub fn arg_at(b: &[u8], i: u32) -> u8
-    requires { ⌜ start (i + 1) ≤ length (now b) ⌝ }
+pub fn arg_at(b: &[u8], z: Sizes, i: u32) -> u8
+    requires { ⌜ IsOpen (now b) z × (i < z .nodes) ⌝ }
     ensures { λ r. ⌜ r ≡ arg (now (b .entry)) i ⌝ }
 {
-    b[6 + 8 * (i as usize) + 1]
+    let d = read(b, z, i as usize);
+    d.arg
 }
 
-pub fn first_at(b: &[u8], i: u32) -> u32
-    requires { ⌜ start (i + 1) ≤ length (now b) ⌝ }
+pub fn first_at(b: &[u8], z: Sizes, i: u32) -> u32
+    requires { ⌜ IsOpen (now b) z × (i < z .nodes) ⌝ }
     ensures { λ r. ⌜ r ≡ child1 (now (b .entry)) i ⌝ }
 {
-    pair_at(b, 6 + 8 * (i as usize) + 2) as u32
+    let d = read(b, z, i as usize);
+    d.first as u32
 }
 
-pub fn second_at(b: &[u8], i: u32) -> u32
-    requires { ⌜ start (i + 1) ≤ length (now b) ⌝ }
+pub fn second_at(b: &[u8], z: Sizes, i: u32) -> u32
+    requires { ⌜ IsOpen (now b) z × (i < z .nodes) ⌝ }
     ensures { λ r. ⌜ r ≡ child2 (now (b .entry)) i ⌝ }
 {
-    pair_at(b, 6 + 8 * (i as usize) + 4) as u32
+    let d = read(b, z, i as usize);
+    d.second as u32
 }
 
-pub fn third_at(b: &[u8], i: u32) -> u32
-    requires { ⌜ start (i + 1) ≤ length (now b) ⌝ }
+pub fn third_at(b: &[u8], z: Sizes, i: u32) -> u32
+    requires { ⌜ IsOpen (now b) z × (i < z .nodes) ⌝ }
     ensures { λ r. ⌜ r ≡ child3 (now (b .entry)) i ⌝ }
 {
-    pair_at(b, 6 + 8 * (i as usize) + 6) as u32
+    let d = read(b, z, i as usize);
+    d.third as u32
 }
 
 // A number of 32 bits, read as two's complement.
@@ -234,12 +248,12 @@ pub fn signed_of(u: u32) -> i32
 }
 
 // The number that an integer node holds in bytes 4-7.
-pub fn integer_at(b: &[u8], i: u32) -> i32
-    requires { ⌜ start (i + 1) ≤ length (now b) ⌝ }
+pub fn integer_at(b: &[u8], z: Sizes, i: u32) -> i32
+    requires { ⌜ IsOpen (now b) z × (i < z .nodes) ⌝ }
     ensures { λ r. ⌜ r ≡ integerOf (now (b .entry)) i ⌝ }
 {
-    let at = 6 + 8 * (i as usize);
-    let high = pair_at(b, at + 4);
-    let low = pair_at(b, at + 6);
+    let d = read(b, z, i as usize);
+    let high = d.second;
+    let low = d.third;
     signed_of((high as u32) * 65536 + (low as u32))
 }

@@ -9,15 +9,10 @@ pub integer-at-spec : {M : Type 1} → statement M
 integer-at-spec =
     tie.close
     (tie.spec
-    (λ c. search needs)
-    (λ c. search needs)
-    (λ c. search needs)
-    (λ c κs. search needs)
-    (λ c. search needs)
     (λ c κs. search needs)
     (λ c. search needs)
     (λ c. search needs)
     (λ c. search needs)
     (λ c. search needs)
     (λ c κs. search needs)
-    (λ c. rw (toZ-ofZ w32 (c .signed-of .result) (search needs), c .signed-of .ensures, c .before .pair-at2 .ensures, c .before .before .pair-at .ensures)))
+    (λ c. rw (toZ-ofZ w32 (c .signed-of .result) (search needs), c .signed-of .ensures, c .before .read .ensures)))

@@ -1,0 +1,14 @@
+-- `routine::first_at` meets its contract: a part of the node that was read.
+use mathlib.Core.Path.{ap}
+use borrow.Author.Needs.{needs}
+use Rattle.routine.specs.declared.Node.{Node}
+use Rattle.routine.proofs.first_at.Statement.{statement}
+use Rattle.routine.proofs.first_at.Tie as tie
+
+pub first-at-spec : {M : Type 1} → statement M
+first-at-spec =
+    tie.close
+    (tie.spec
+    (λ c κs. search needs)
+    (λ c. search needs)
+    (λ c. ap (λ (d : Node). d .first) (c .before .read .ensures)))
