@@ -199,7 +199,7 @@ fn check_nodes(b: &[u8], z: Sizes, mask: usize, types: &mut [u8]) -> Typed
     let mut writes = 0u64;
     let mut i = 0;
     while i < n {
-        let d = routine::node_at(b, i);
+        let d = routine::read(b, z, i);
         let c = node_fault(d, m, mask, types);
         if c != 0 {
             return Typed::Fault(c, i as u16);

@@ -8,6 +8,7 @@ ghost use Rattle.stored.specs.Refusals.{number};
 ghost use Rattle.routine.specs.Forms.{formOf, kindOf, digitOf, arityOf, nodeOf, integerOf};
 ghost use Rattle.routine.specs.Says.{refusalOf, returned};
 ghost use Rattle.routine.specs.Open.{IsOpen};
+ghost use Rattle.routine.specs.View.{viewOf};
 
 // Why a row is refused: a case for each of 01's numbers, with what the number also returns.
 pub enum Refusal {
@@ -187,12 +188,35 @@ pub fn node_at(b: &[u8], i: usize) -> Node
     }
 }
 
-// Node i of a routine that was opened, read through a view: callers need no walk of their own.
+// A routine that was opened: the caller's own bytes, with n and m.
+pub struct Routine<'a> {
+    pub bytes: &'a [u8],
+    pub sizes: Sizes,
+}
+
+impl<'a> Routine<'a> {
+    // The view of bytes that were opened, with the sizes that the opening told.
+    pub fn of(bytes: &'a [u8], sizes: Sizes) -> Routine<'a>
+        requires { ⌜ IsOpen (now bytes) sizes ⌝ }
+        ensures { λ r. ⌜ r ≡ viewOf (bytes .entry) sizes ⌝ }
+    {
+        Routine { bytes, sizes }
+    }
+
+    pub fn node(self, i: usize) -> Node
+        requires { ⌜ IsOpen (now (self .bytes)) (self .sizes) × (i < self .sizes .nodes) ⌝ }
+        ensures { λ d. ⌜ d ≡ nodeOf (now (self .entry .bytes)) i ⌝ }
+    {
+        node_at(self.bytes, i)
+    }
+}
+
+// Node i of a routine that was opened, read through the view: the one way by which the check, the run and the text read nodes.
 pub fn read(bytes: &[u8], sizes: Sizes, i: usize) -> Node
     requires { ⌜ IsOpen (now bytes) sizes × (i < sizes .nodes) ⌝ }
     ensures { λ d. ⌜ d ≡ nodeOf (now (bytes .entry)) i ⌝ }
 {
-    node_at(bytes, i)
+    Routine::of(bytes, sizes).node(i)
 }
 
 // The parts of node i one at a time, for those that need no whole node.

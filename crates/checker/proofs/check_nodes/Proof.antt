@@ -13,37 +13,37 @@ use Rattle.checker.proofs.check_nodes.Statement.{statement}
 use Rattle.checker.proofs.check_nodes.Tie as tie
 
 abbrev Inv-loop : tie.InvT-loop
-Inv-loop b mask types₀ n m working₀ reads₀ writes₀ i₀ types working reads writes i =
+Inv-loop b z mask types₀ n m working₀ reads₀ writes₀ i₀ types working reads writes i =
     (i ≤ n) × (length types ≡ length types₀) × ((j : ℕ) → j < i → Passed b types j)
     × (working ≤ i) × (working ≡ workTo b i) × (reads ≡ wordTo reading b i) × (writes ≡ wordTo writing b i)
 
 abbrev μ-loop : tie.MeasureT-loop
-μ-loop b mask types₀ n m working₀ reads₀ writes₀ i₀ types working reads writes i = n - i
+μ-loop b z mask types₀ n m working₀ reads₀ writes₀ i₀ types working reads writes i = n - i
 
 starts : tie.Need-loop-holds Inv-loop μ-loop
 unfolding work-of uses-of word
 starts c = (omega arith, refl, (λ j l. absurd (omega arith)), omega arith, refl, refl, refl)
 
 -- the node that a turn reads, and the loop's head
-abbrev at-node : tie.After-type-of Inv-loop μ-loop → tie.After-node-at Inv-loop μ-loop
+abbrev at-node : tie.After-type-of Inv-loop μ-loop → tie.After-read Inv-loop μ-loop
 at-node y = y .before .before .before .before .before .before
 
-abbrev at-head : tie.After-node-at Inv-loop μ-loop → tie.At-loop Inv-loop μ-loop
+abbrev at-head : tie.After-read Inv-loop μ-loop → tie.At-loop Inv-loop μ-loop
 at-head t = t .before .before
 
-arg-fits : (y : tie.After-type-of Inv-loop μ-loop) → at-node y .node-at .result .arg < 64
+arg-fits : (y : tie.After-type-of Inv-loop μ-loop) → at-node y .read .result .arg < 64
 arg-fits y =
     let e = y .before .before .before in let t = at-node y in let h = at-head t in let p = h .before .before .before .pre in
     let l = t .before .loop-test .taken in
-    let q = its-fault _ (p .0) (p .3) (h .loop .inv .2) l (t .node-at .ensures) (e .before .node-fault .ensures) in
-    arg-small (p .0) l (t .node-at .ensures) (sym q ∙ e .if1 .left)
+    let q = its-fault _ (p .0) (p .3) (h .loop .inv .2) l (t .read .ensures) (e .before .node-fault .ensures) in
+    arg-small (p .0) l (t .read .ensures) (sym q ∙ e .if1 .left)
 
 again : tie.Need-loop-again Inv-loop μ-loop
 again c =
     let y = c .before .before .before in let e = y .before .before .before in let t = at-node y in let h = at-head t in
     let p = h .before .before .before .pre in
     let l = t .before .loop-test .taken in
-    let q = t .node-at .ensures in
+    let q = t .read .ensures in
     let (few, long, past, small, w, r, s) = h .loop .inv in (
       omega arith,
       simp length-set (omega arith),
@@ -76,12 +76,12 @@ check-nodes-spec =
     Inv-loop
     μ-loop
     starts
-    (λ c κs. let o = c .before .before .before .before .pre .0 in omega (arith, is-headed (o .opens) (o .holds)))
+    (λ c κs. (c .before .before .before .before .pre .0, c .loop-test .taken))
     (λ c κs. omega arith)
     (λ c. let o = c .before .before .before .before .before .before .before .before .pre .0 in omega (arith, is-headed (o .opens) (o .holds)))
     (λ c. omega arith)
     (λ c. let t = c .before .before .before in let h = at-head t in let p = h .before .before .before .pre in
-    faulty _ (p .0) (p .3) (h .loop .inv .2) (t .before .loop-test .taken) (t .node-at .ensures) (c .before .node-fault .ensures) (c .if1 .taken))
+    faulty _ (p .0) (p .3) (h .loop .inv .2) (t .before .loop-test .taken) (t .read .ensures) (c .before .node-fault .ensures) (c .if1 .taken))
     (λ c κs. omega arith)
     (λ c κs. tt)
     (λ c. omega (arith, at-head (at-node c) .before .before .before .pre .1))
