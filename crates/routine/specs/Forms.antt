@@ -49,11 +49,11 @@ arityOf Seq = 2
 arityOf While = 2
 arityOf Unknown = 0
 
-abbrev pub nodeOf : List ℕ → ℕ → Node
-nodeOf b i = record { form = formOf (kind b i); arg = arg b i; first = child1 b i; second = child2 b i; third = child3 b i }
-
 abbrev pub integerOf : List ℕ → ℕ → ℤ
 integerOf b i = signed (child2 b i * 65536 + child3 b i)
+
+abbrev pub nodeOf : List ℕ → ℕ → Node
+nodeOf b i = record { form = formOf (kind b i); arg = arg b i; first = child1 b i; second = child2 b i; third = child3 b i; number = integerOf b i }
 
 -- the tree of a form at node i, over the trees t of the nodes before it
 abbrev pub make : Form → List ℕ → ℕ → (ℕ → Expr) → Expr

@@ -1,6 +1,6 @@
 // What every part knows of a stored routine: why a row is refused, its sizes, and its nodes, read one by one from the caller's own bytes.
 ghost use mathlib.Core.Path.{_≡_};
-ghost use Prim.Native.Nat.{_+_, _≤_, _<_};
+ghost use Prim.Native.Nat.{_+_, _*_, _≤_, _<_};
 ghost use lib.ListN.{length};
 ghost use Rattle.stored.specs.Bytes.{pair, signed};
 ghost use Rattle.stored.specs.Layout.{start, kind, arg, child1, child2, child3};
@@ -99,13 +99,14 @@ pub enum Form {
     Unknown,
 }
 
-// The eight bytes of a node: its form, the small argument, and the numbers of its children.
+// The eight bytes of a node: its form, the small argument, and the numbers of its children or, in bytes 4-7, its own number.
 pub struct Node {
     pub form: Form,
     pub arg: u8,
     pub first: u16,
     pub second: u16,
     pub third: u16,
+    pub number: i32,
 }
 
 pub fn wide(x: u8) -> usize
@@ -174,17 +175,38 @@ pub fn arity_of(f: Form) -> u64
     digit_of(0x02200132200, f)
 }
 
+// A number of 32 bits, read as two's complement.
+pub fn signed_of(u: u32) -> i32
+    ensures { λ r. ⌜ r ≡ signed u ⌝ }
+{
+    if u < 2147483648 {
+        u as i32
+    } else {
+        ((u as i64) - 4294967296) as i32
+    }
+}
+
+// The number in bytes 4-7 of a node, by its halves.
+fn whole(high: u16, low: u16) -> i32
+    ensures { λ r. ⌜ r ≡ signed (high * 65536 + low) ⌝ }
+{
+    signed_of((high as u32) * 65536 + (low as u32))
+}
+
 pub fn node_at(b: &[u8], i: usize) -> Node
     requires { ⌜ start (i + 1) ≤ length (now b) ⌝ }
     ensures { λ r. ⌜ r ≡ nodeOf (now (b .entry)) i ⌝ }
 {
     let at = 6 + 8 * i;
+    let second = pair_at(b, at + 4);
+    let third = pair_at(b, at + 6);
     Node {
         form: form_of(b[at]),
         arg: b[at + 1],
         first: pair_at(b, at + 2),
-        second: pair_at(b, at + 4),
-        third: pair_at(b, at + 6),
+        second,
+        third,
+        number: whole(second, third),
     }
 }
 
@@ -260,24 +282,11 @@ pub fn third_at(b: &[u8], z: Sizes, i: u32) -> u32
     d.third as u32
 }
 
-// A number of 32 bits, read as two's complement.
-pub fn signed_of(u: u32) -> i32
-    ensures { λ r. ⌜ r ≡ signed u ⌝ }
-{
-    if u < 2147483648 {
-        u as i32
-    } else {
-        ((u as i64) - 4294967296) as i32
-    }
-}
-
 // The number that an integer node holds in bytes 4-7.
 pub fn integer_at(b: &[u8], z: Sizes, i: u32) -> i32
     requires { ⌜ IsOpen (now b) z × (i < z .nodes) ⌝ }
     ensures { λ r. ⌜ r ≡ integerOf (now (b .entry)) i ⌝ }
 {
     let d = read(b, z, i as usize);
-    let high = d.second;
-    let low = d.third;
-    signed_of((high as u32) * 65536 + (low as u32))
+    d.number
 }

@@ -1,7 +1,9 @@
--- `routine::integer_at` meets its contract.
-use borrow.Author.Needs.{needs}
+-- `routine::integer_at` meets its contract: a part of the node that was read.
+use mathlib.Core.Path.{ap, _∙_}
 use mir.Syntax.{w32}
 use mir.ValLaws.{toZ-ofZ}
+use borrow.Author.Needs.{needs}
+use Rattle.routine.specs.declared.Node.{Node}
 use Rattle.routine.proofs.integer_at.Statement.{statement}
 use Rattle.routine.proofs.integer_at.Tie as tie
 
@@ -10,9 +12,4 @@ integer-at-spec =
     tie.close
     (tie.spec
     (λ c κs. search needs)
-    (λ c. search needs)
-    (λ c. search needs)
-    (λ c. search needs)
-    (λ c. search needs)
-    (λ c κs. search needs)
-    (λ c. rw (toZ-ofZ w32 (c .signed-of .result) (search needs), c .signed-of .ensures, c .before .read .ensures)))
+    (λ c. toZ-ofZ w32 (c .before .read .result .number) (search needs) ∙ ap (λ (d : Node). d .number) (c .before .read .ensures)))
