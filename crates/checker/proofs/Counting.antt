@@ -1,12 +1,12 @@
 -- One node of an opened routine and the tally: what the node itself adds, and W and the two sets over the first i nodes.
-use Prim.Native.Nat.{ℕ, _+_, _≤_, _<_}
+use Prim.Native.Nat.{ℕ, _+_, _^_, _≤_, _<_}
 use native.Mathlib.Omega.{arith}
-use mathlib.Core.Path.{_≡_, refl, ap}
+use mathlib.Core.Path.{_≡_, refl, ap, _∙_}
 use mathlib.Core.Bool.{Bool, true, false, cond}
 use mathlib.Core.List.{List}
 use lib.Bits.{bitOr}
 use lib.Dec.{ltb}
-use lib.ListN.{take}
+use lib.ListN.{length, getD, set, take}
 use lib.Seq.{take-all}
 use borrow.Author.Tests.{ltb-true}
 use Rattle.l1.specs.Syntax.{plus, geq, Expr, tInt}
@@ -20,11 +20,12 @@ use Rattle.l1.proofs.SetWords.{word-append}
 use Rattle.stored.specs.Layout.{kind, arg, TreeAt, at-int, at-bool, at-op, at-if, at-assign, at-deref, at-skip, at-seq, at-while}
 use Rattle.stored.specs.Reader.{treeAt}
 use Rattle.stored.specs.Refusals.{locations, count, env}
-use Rattle.routine.specs.Forms.{formOf, nodeOf}
+use Rattle.routine.specs.Forms.{formOf, kindOf, nodeOf}
 use Rattle.routine.specs.Open.{IsOpen, rootOf}
 use Rattle.routine.specs.declared.Node.{Node}
 use Rattle.routine.specs.declared.Sizes.{Sizes}
 use Rattle.checker.specs.Rules.{workBy, usesBy}
+use Rattle.checker.proofs.Tables.{kindFor, named-word}
 use Rattle.routine.proofs.Standing.{is-headed, root-size, nodes-stand, root-nodes}
 
 -- what the code adds for node i of b is what the root of the tree e adds
@@ -85,10 +86,14 @@ module _ {b : List ℕ} {z : Sizes} (o : IsOpen b z) where
     pub work-turn : {w v : ℕ} → w ≡ workTo b i → v ≡ workBy (d .form) → w + v ≡ workTo b (i + 1)
     work-turn p r = rw (p, r, q, work-more (root-nodes (o .opens) (o .holds) i inside), adds (nodes-stand (o .opens) (o .holds) i inside) .0)
 
-    pub word-turn : (u : Use) {w v : ℕ} → w ≡ wordTo u b i → v ≡ word (usesBy u (d .form) (d .arg)) → bitOr w v ≡ wordTo u b (i + 1)
-    word-turn u p r =
+    word-more : (u : Use) {w v : ℕ} → w ≡ wordTo u b i → v ≡ word (usesBy u (d .form) (d .arg)) → bitOr w v ≡ wordTo u b (i + 1)
+    word-more u p r =
         let n = root-nodes (o .opens) (o .holds) i inside in
         rw (p, r, q, uses-more u n, adds (nodes-stand (o .opens) (o .holds) i inside) .1 u, word-append)
+
+    pub word-turn : (u : Use) (w : List ℕ) {k v : ℕ} → length w ≡ 16 → getD w (kindFor u) 0 ≡ wordTo u b i → k ≡ kindOf (d .form) → v ≡ 2 ^ d .arg
+        → getD (set w k (bitOr (getD w k 0) v)) (kindFor u) 0 ≡ wordTo u b (i + 1)
+    word-turn u w long p k v = rw (k, v) (named-word (d .arg) w (omega arith) u (d .form) ∙ word-more u p refl)
 
   -- after the last node
   module _ {i : ℕ} (l : z .nodes ≤ i) where

@@ -1,16 +1,17 @@
 -- What the words of `src/lib.rt` say of each form is what the definitions by form say.
-use Prim.Native.Nat.{ℕ, _*_, _^_, _<_}
-use native.Mathlib.Nat.{zero-mul, one-mul}
+use Prim.Native.Nat.{ℕ, _^_, _<_}
 use native.Mathlib.Omega.{arith}
-use mathlib.Core.Path.{_≡_, refl, sym, _∙_}
+use mathlib.Core.Path.{_≡_, refl, sym, ap, _∙_}
 use mathlib.Core.Bool.{Bool, true, false, not, _&&_, _||_, cond}
 use mathlib.Core.List.{List, [], _∷_}
-use lib.Bits.{or-zero-r}
+use lib.Bits.{bitOr, or-zero-r}
 use lib.Dec.{eqb, ltb}
-use Rattle.l1.specs.Sets.{reading, writing, word}
+use lib.ListN.{length, getD, set}
+use lib.Seq.{getD-set-same, getD-set-other}
+use Rattle.l1.specs.Sets.{Use, reading, writing, word}
 use Rattle.routine.specs.declared.Form.{Form}
 use Rattle.routine.specs.declared.Form.the-variants.{Integer, Boolean, Plus, Geq, If, Assign, Deref, Skip, Seq, While, Unknown}
-use Rattle.routine.specs.Forms.{digitOf}
+use Rattle.routine.specs.Forms.{kindOf, digitOf}
 use Rattle.checker.specs.Rules.{faultBy, typeBy, workBy, usesBy}
 
 pub type-given : (f : Form) (q : ℕ) → cond (eqb (digitOf 0x22320231010 f) 3) q (digitOf 0x22320231010 f) ≡ typeBy f q
@@ -41,45 +42,52 @@ work-counted Seq = (refl, omega arith)
 work-counted While = (refl, omega arith)
 work-counted Unknown = (refl, omega arith)
 
--- the bit of location l, where a table has 1 for the form
-abbrev Bit : ℕ → ℕ → List ℕ → Type 0
-Bit t l uses = (t < 2) × (t * 2 ^ l ≡ word uses)
+-- the kind that names a location in order to read it, and to write it
+abbrev pub kindFor : Use → ℕ
+kindFor reading = 6
+kindFor writing = 5
 
-no-bit : (l : ℕ) → Bit 0 l []
-unfolding word
-no-bit l = (omega arith, zero-mul _)
+-- the words by kind, once a node of form f was passed whose byte 1 is l
+abbrev pub named : Form → ℕ → List ℕ → List ℕ
+named f l w = set w (kindOf f) (bitOr (getD w (kindOf f) 0) (2 ^ l))
 
-own-bit : (l : ℕ) → Bit 1 l (l ∷ [])
-unfolding word
-own-bit l = (omega arith, one-mul _ ∙ sym (or-zero-r _))
+module _ (l : ℕ) (w : List ℕ) (long : 10 < length w) where
+  -- the word of another kind stays
+  abbrev Stays : Use → Form → Type 0
+  Stays u f = getD (named f l w) (kindFor u) 0 ≡ bitOr (getD w (kindFor u) 0) (word [])
 
-pub reading-bit : (f : Form) (l : ℕ) → Bit (digitOf 0x00001000000 f) l (usesBy reading f l)
-unfolding digitOf
-reading-bit Integer l = no-bit l
-reading-bit Boolean l = no-bit l
-reading-bit Plus l = no-bit l
-reading-bit Geq l = no-bit l
-reading-bit If l = no-bit l
-reading-bit Assign l = no-bit l
-reading-bit Deref l = own-bit l
-reading-bit Skip l = no-bit l
-reading-bit Seq l = no-bit l
-reading-bit While l = no-bit l
-reading-bit Unknown l = no-bit l
+  stays : (u : Use) (f : Form) → ¬ (kindFor u ≡ kindOf f) → Stays u f
+  unfolding word
+  stays u f other = getD-set-other w (kindOf f) (kindFor u) _ 0 other ∙ sym (or-zero-r _)
 
-pub writing-bit : (f : Form) (l : ℕ) → Bit (digitOf 0x00000100000 f) l (usesBy writing f l)
-unfolding digitOf
-writing-bit Integer l = no-bit l
-writing-bit Boolean l = no-bit l
-writing-bit Plus l = no-bit l
-writing-bit Geq l = no-bit l
-writing-bit If l = no-bit l
-writing-bit Assign l = own-bit l
-writing-bit Deref l = no-bit l
-writing-bit Skip l = no-bit l
-writing-bit Seq l = no-bit l
-writing-bit While l = no-bit l
-writing-bit Unknown l = no-bit l
+  -- its own word gets the bit
+  grows : (k : ℕ) → k < length w → getD (set w k (bitOr (getD w k 0) (2 ^ l))) k 0 ≡ bitOr (getD w k 0) (word (l ∷ []))
+  unfolding word
+  grows k h = getD-set-same w k _ 0 h ∙ ap (bitOr (getD w k 0)) (sym (or-zero-r _))
+
+  pub named-word : (u : Use) (f : Form) → getD (named f l w) (kindFor u) 0 ≡ bitOr (getD w (kindFor u) 0) (word (usesBy u f l))
+  named-word reading Integer = stays reading Integer (λ e. absurd (omega arith))
+  named-word reading Boolean = stays reading Boolean (λ e. absurd (omega arith))
+  named-word reading Plus = stays reading Plus (λ e. absurd (omega arith))
+  named-word reading Geq = stays reading Geq (λ e. absurd (omega arith))
+  named-word reading If = stays reading If (λ e. absurd (omega arith))
+  named-word reading Assign = stays reading Assign (λ e. absurd (omega arith))
+  named-word reading Deref = grows 6 (omega arith)
+  named-word reading Skip = stays reading Skip (λ e. absurd (omega arith))
+  named-word reading Seq = stays reading Seq (λ e. absurd (omega arith))
+  named-word reading While = stays reading While (λ e. absurd (omega arith))
+  named-word reading Unknown = stays reading Unknown (λ e. absurd (omega arith))
+  named-word writing Integer = stays writing Integer (λ e. absurd (omega arith))
+  named-word writing Boolean = stays writing Boolean (λ e. absurd (omega arith))
+  named-word writing Plus = stays writing Plus (λ e. absurd (omega arith))
+  named-word writing Geq = stays writing Geq (λ e. absurd (omega arith))
+  named-word writing If = stays writing If (λ e. absurd (omega arith))
+  named-word writing Assign = grows 5 (omega arith)
+  named-word writing Deref = stays writing Deref (λ e. absurd (omega arith))
+  named-word writing Skip = stays writing Skip (λ e. absurd (omega arith))
+  named-word writing Seq = stays writing Seq (λ e. absurd (omega arith))
+  named-word writing While = stays writing While (λ e. absurd (omega arith))
+  named-word writing Unknown = stays writing Unknown (λ e. absurd (omega arith))
 
 -- the tests of `holds`, joined as it joins them
 abbrev pub allHold : Form → ℕ → ℕ → ℕ → ℕ → ℕ → Bool

@@ -1,17 +1,16 @@
 // Checks a stored routine against the typing rules: refusals 1 to 9 and 20 to 23, else its type, W, and its read and write sets.
 ghost use mathlib.Core.Path.{_≡_};
 ghost use mathlib.Core.Bool.{_||_, cond};
-ghost use Prim.Native.Nat.{_≤_, _<_, _*_, _^_};
+ghost use Prim.Native.Nat.{_≤_, _<_, _^_};
 ghost use lib.Dec.{eqb};
 ghost use lib.ListN.{length};
 ghost use Rattle.l1.specs.Judge.{typeNo};
-ghost use Rattle.l1.specs.Sets.{reading, writing, word};
 ghost use Rattle.stored.specs.Answers.{Checks};
 ghost use Rattle.routine.specs.Masks.{Covers, under};
 ghost use Rattle.routine.specs.Open.{IsOpen};
 ghost use Rattle.routine.specs.Says.{refusalOf};
 ghost use Rattle.stored.specs.Refusals.{no-with};
-ghost use Rattle.checker.specs.Rules.{faultBy, typeBy, typeOf, workBy, usesBy};
+ghost use Rattle.checker.specs.Rules.{faultBy, typeBy, typeOf, workBy};
 ghost use Rattle.checker.specs.Says.{TypedSays, checkedOf};
 use opener::Opened;
 use routine::Form;
@@ -148,12 +147,8 @@ fn node_fault(d: Node, m: u8, mask: usize, types: &[u8]) -> u8
     }
 }
 
-// The forms that W counts, those that read a location, and those that write one: tables as above.
+// The forms that W counts: a table as above.
 const WORKING: u64 = 0x01101111100;
-
-const READING: u64 = 0x00001000000;
-
-const WRITING: u64 = 0x00000100000;
 
 fn work_of(f: Form) -> usize
     ensures { λ r. ⌜ (r ≡ workBy f) × (r < 2) ⌝ }
@@ -161,31 +156,18 @@ fn work_of(f: Form) -> usize
     routine::digit_of(WORKING, f) as usize
 }
 
-// The word with the bit of location l alone, or with none.
-fn bit_of(t: u64, l: u8) -> u64
-    requires { ⌜ (t < 2) × (l < 64) ⌝ }
-    ensures { λ r. ⌜ r ≡ t * 2 ^ l ⌝ }
+// The word with the bit of location l alone.
+fn bit_of(l: u8) -> u64
+    requires { ⌜ l < 64 ⌝ }
+    ensures { λ r. ⌜ r ≡ 2 ^ l ⌝ }
 {
-    t << (l as u64)
+    1u64 << (l as u64)
 }
 
-// The locations that the node itself reads, as a word.
-fn reads_of(d: Node) -> u64
-    requires { ⌜ d .arg < 64 ⌝ }
-    ensures { λ r. ⌜ r ≡ word (usesBy reading (d .form) (d .arg)) ⌝ }
-{
-    let f = d.form;
-    bit_of(routine::digit_of(READING, f), d.arg)
-}
+// The kinds of the two forms that name a location.
+const ASSIGN: usize = 5;
 
-// The locations that the node itself writes, as a word.
-fn writes_of(d: Node) -> u64
-    requires { ⌜ d .arg < 64 ⌝ }
-    ensures { λ r. ⌜ r ≡ word (usesBy writing (d .form) (d .arg)) ⌝ }
-{
-    let f = d.form;
-    bit_of(routine::digit_of(WRITING, f), d.arg)
-}
+const DEREF: usize = 6;
 
 // Refusals 20 to 23, else what the nodes tell, in one pass over them; the lent table has room for them.
 fn check_nodes(b: &[u8], z: Sizes, mask: usize, types: &mut [u8]) -> Typed
@@ -195,8 +177,8 @@ fn check_nodes(b: &[u8], z: Sizes, mask: usize, types: &mut [u8]) -> Typed
     let n = z.nodes;
     let m = z.locations;
     let mut working = 0;
-    let mut reads = 0u64;
-    let mut writes = 0u64;
+    // By kind, the bits of what byte 1 holds: of an assignment and a dereference these are the locations, of the others nobody reads them.
+    let mut named = [0u64; 16];
     let mut i = 0;
     while i < n {
         let d = routine::read(b, z, i);
@@ -207,16 +189,16 @@ fn check_nodes(b: &[u8], z: Sizes, mask: usize, types: &mut [u8]) -> Typed
         let f = d.form;
         types[i] = type_of(f, entry(types, mask, d.second));
         working += work_of(f);
-        reads = reads | reads_of(d);
-        writes = writes | writes_of(d);
+        let k = routine::kind_of(f) as usize;
+        named[k] = named[k] | bit_of(d.arg);
         i += 1;
     }
     let ty = types[n - 1];
     Typed::All(Tally {
         ty,
         working,
-        reads,
-        writes,
+        reads: named[DEREF],
+        writes: named[ASSIGN],
     })
 }
 

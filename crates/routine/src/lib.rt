@@ -142,8 +142,8 @@ pub fn form_of(kind: u8) -> Form
 }
 
 // The kind of a form, 10 for what is not in the table.
-fn kind_of(f: Form) -> u64
-    ensures { λ r. ⌜ r ≡ kindOf f ⌝ }
+pub fn kind_of(f: Form) -> u64
+    ensures { λ r. ⌜ (r ≡ kindOf f) × (r < 16) ⌝ }
 {
     match f {
         Form::Integer => 0,

@@ -3,7 +3,8 @@
 use Prim.Native.Nat.{ℕ, _-_, _≤_, _<_}
 use native.Mathlib.Omega.{arith}
 use mathlib.Core.Path.{_≡_, refl, sym, _∙_}
-use lib.ListN.{length, length-set}
+use borrow.Author.Needs.{needs}
+use lib.ListN.{length, getD, length-set}
 use Rattle.l1.specs.Sets.{reading, writing, word}
 use Rattle.l1.proofs.NodeSums.{work-of, uses-of}
 use Rattle.routine.proofs.Standing.{is-headed}
@@ -13,16 +14,17 @@ use Rattle.checker.proofs.check_nodes.Statement.{statement}
 use Rattle.checker.proofs.check_nodes.Tie as tie
 
 abbrev Inv-loop : tie.InvT-loop
-Inv-loop b z mask types₀ n m working₀ reads₀ writes₀ i₀ types working reads writes i =
+Inv-loop b z mask types₀ n m working₀ named₀ i₀ types working named i =
     (i ≤ n) × (length types ≡ length types₀) × ((j : ℕ) → j < i → Passed b types j)
-    × (working ≤ i) × (working ≡ workTo b i) × (reads ≡ wordTo reading b i) × (writes ≡ wordTo writing b i)
+    × (working ≤ i) × (working ≡ workTo b i)
+    × (length named ≡ 16) × (getD named 6 0 ≡ wordTo reading b i) × (getD named 5 0 ≡ wordTo writing b i)
 
 abbrev μ-loop : tie.MeasureT-loop
-μ-loop b z mask types₀ n m working₀ reads₀ writes₀ i₀ types working reads writes i = n - i
+μ-loop b z mask types₀ n m working₀ named₀ i₀ types working named i = n - i
 
 starts : tie.Need-loop-holds Inv-loop μ-loop
 unfolding work-of uses-of word
-starts c = (omega arith, refl, (λ j l. absurd (omega arith)), omega arith, refl, refl, refl)
+starts c = (omega arith, refl, (λ j l. absurd (omega arith)), omega arith, refl, refl, refl, refl)
 
 -- the node that a turn reads, and the loop's head
 abbrev at-node : tie.After-type-of Inv-loop μ-loop → tie.After-read Inv-loop μ-loop
@@ -44,21 +46,23 @@ again c =
     let p = h .before .before .before .pre in
     let l = t .before .loop-test .taken in
     let q = t .read .ensures in
-    let (few, long, past, small, w, r, s) = h .loop .inv in (
+    let kind = c .before .kind-of .ensures .0 in
+    let (few, long, past, small, w, room, r, s) = h .loop .inv in (
       omega arith,
       simp length-set (omega arith),
       passed _ (p .0) (p .3) past l q (e .before .node-fault .ensures) (e .if1 .left) (rw (y .type-of .ensures, y .before .entry .ensures))
           (omega (arith, p .1)),
       omega (arith, c .before .before .work-of .ensures .1),
       work-turn (p .0) l q w (c .before .before .work-of .ensures .0),
-      word-turn (p .0) l q reading r (c .before .reads-of .ensures),
-      word-turn (p .0) l q writing s (c .writes-of .ensures),
+      simp length-set room,
+      word-turn (p .0) l q reading (h .loop .named) room r kind (c .bit-of .ensures),
+      word-turn (p .0) l q writing (h .loop .named) room s kind (c .bit-of .ensures),
     )
 
 ends : tie.Need-returns-2 Inv-loop μ-loop
 ends c =
     let h = c .before .before in let p = h .before .before .before .pre in let l = c .before .loop-test .left in
-    let (few, long, past, small, w, r, s) = h .loop .inv in
+    let (few, long, past, small, w, room, r, s) = h .loop .inv in
     let (typed, e) = all-passed _ (p .0) (p .3) past l in (
       typed,
       record {
@@ -87,12 +91,18 @@ check-nodes-spec =
     (λ c. omega (arith, at-head (at-node c) .before .before .before .pre .1))
     (λ c κs. tt)
     (λ c. let h = at-head (at-node (c .before)) in omega (arith, c .work-of .ensures .1, h .loop .inv .3, h .loop .inv .0))
-    (λ c κs. arg-fits (c .before))
+    (λ c κs. tt)
+    (λ c. omega (arith, c .kind-of .ensures .1))
+    (λ c. c .kind-of .ensures .1)
     (λ c κs. arg-fits (c .before .before))
-    (λ c. let h = at-head (at-node (c .before .before .before)) in omega (arith, at-node (c .before .before .before) .before .loop-test .taken))
-    (λ c. let t = at-node (c .before .before .before) in omega (arith, t .before .loop-test .taken))
+    (λ c. omega (arith, c .before .kind-of .ensures .1))
+    (λ c. c .before .kind-of .ensures .1)
+    (λ c. omega (arith, at-node (c .before .before .before) .before .loop-test .taken))
+    (λ c. omega (arith, at-node (c .before .before .before) .before .loop-test .taken))
     again
     (λ c. let o = c .before .before .before .before .pre .0 in omega (arith, is-headed (o .opens) (o .holds)))
     (λ c. let o = c .before .before .before .before .before .pre .0 in omega (arith, is-headed (o .opens) (o .holds)))
+    (λ c. search needs)
+    (λ c. search needs)
     (λ c. omega arith)
     ends)

@@ -7,4 +7,4 @@ use Rattle.routine.proofs.digit_of.Tie as tie
 
 pub digit-of-spec : {M : Type 1} → statement M
 unfolding digitOf
-digit-of-spec = tie.close (tie.spec (λ c κs. search needs) (λ c. search needs) (λ c. search needs) (λ c. (rw (c .kind-of .ensures), omega arith)))
+digit-of-spec = tie.close (tie.spec (λ c κs. search needs) (λ c. search needs) (λ c. search needs) (λ c. (rw (c .kind-of .ensures .0), omega arith)))
