@@ -15,7 +15,7 @@ use Rattle.l1.proofs.SetWords.{word-small}
 use Rattle.l1.proofs.Verdict.{typed-not-refused, below-typed, refused-unique, refused-number, no-type-iff-refused}
 use Rattle.stored.specs.Bytes.{byte}
 use Rattle.stored.specs.Stored.{stored, Storable}
-use Rattle.stored.specs.Refusals.{no-with, locations, env, Holds, Given, given-7, given-type}
+use Rattle.stored.specs.Refusals.{Lowest, no-with, locations, env, Holds, Given, given-7, given-type}
 use Rattle.stored.specs.Answers.{Opens, refuses, tells, Nothing, Checks, check-refuses, check-tells}
 use Rattle.stored.proofs.Opens.{headed, on-type}
 use Rattle.stored.proofs.Reader.{holds-unique}
@@ -30,11 +30,11 @@ module _ {b : List ℕ} (ok : Opens b) {e : Expr} (h : Holds b e) where
   pub typed-accepted : {T : Ty} → env b ⊢ e ∶ T → Checks b (tells T (working e) (word (reads e)) (word (writes e)))
   typed-accepted t = check-tells (nothing-given t) h t
 
+  pub untyped-lowest : {c i : ℕ} → Refused (env b) e c i → Lowest (Given b) (no-with c i)
+  untyped-lowest r = record { does = given-type h r; no-lower = λ q l g. omega (arith, refused-unique r (on-type ok h g .1)) }
+
   pub untyped-refused : {c i : ℕ} → Refused (env b) e c i → Checks b (refuses (no-with c i))
-  untyped-refused r = check-refuses (record {
-    does = given-type h r;
-    no-lower = λ q l g. omega (arith, refused-unique r (on-type ok h g .1));
-  })
+  untyped-refused r = check-refuses (untyped-lowest r)
 
 -- a number from 20 on is given on type
 given-on-type : {b : List ℕ} {c i : ℕ} → Given b (no-with c i) → 20 ≤ c → (e : Expr) × Holds b e × Refused (env b) e c i

@@ -12,5 +12,5 @@ pub mod OneAnswer  -- any two answers allowed are equal
 pub mod Traces  -- `trace` prints one list of lines
 pub mod Acceptance  -- what the check's answers say of the bytes
 pub mod RunAnswers  -- what the run's answers say, and that there is one
-pub mod LowestGiven  -- the lowest refusal of the routine, of the run and of the text
+pub mod LowestGiven  -- the lowest refusal of the routine, of the run, of the text and of `trace`
 pub mod Example  -- the bytes of 01's worked example

@@ -3,7 +3,7 @@ use mathlib.Core.Path.{sym}
 use lib.Seq.{length-take-le}
 use borrow.Author.Needs.{needs}
 use Rattle.routine.proofs.Opening.{opening-refuses, opening-opens}
-use Rattle.intake.proofs.Refusing.{routine-refused}
+use Rattle.stored.proofs.LowestGiven.{trace-lowest}
 use Rattle.intake.proofs.take_in.Statement.{statement}
 use Rattle.intake.proofs.take_in.Tie as tie
 
@@ -19,7 +19,7 @@ returns : tie.Need-returns
 returns c =
     let e = c .before .before .before .before .before in
     let o = rw (c .before .r .given .1) at (c .before .before .before .open .ensures) in
-    routine-refused (opening-refuses (rw (e .routine-end .ensures .0) at o))
+    trace-lowest (opening-refuses (rw (e .routine-end .ensures .0) at o))
 
 pub take-in-spec : {M : Type 1} → statement M
 take-in-spec =
