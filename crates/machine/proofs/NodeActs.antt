@@ -11,10 +11,9 @@ use Rattle.l1.specs.Store.{Store, _∈dom_, lookup}
 use Rattle.l1.specs.Steps.{Rule, by-deref, by-while, ⟨_∣_⟩⟶⟨_∣_⟩_, deref, while}
 use Rattle.l1.specs.Typing.{TypeEnv, _⊢_∶_, t-deref}
 use Rattle.l1.specs.Measures.{size}
-use Rattle.stored.specs.Layout.{start, kind, arg, child1, child2}
+use Rattle.stored.specs.Layout.{kind, arg, child1, child2}
 use Rattle.stored.specs.Reader.{treeAt}
 use Rattle.stored.specs.Refusals.{locations, count, env}
-use Rattle.stored.specs.Answers.{Headed}
 use Rattle.routine.specs.declared.Form.{Form}
 use Rattle.routine.specs.declared.Form.the-variants.{Integer, Boolean, Plus, Geq, If, Assign, Deref, Skip, Seq, While, Unknown}
 use Rattle.routine.specs.Forms.{formOf, make, Before}
@@ -93,15 +92,8 @@ pub below : {k l n : ℕ} → k ≡ l → l < n → k < n
 below e h = omega arith
 
 module _ {b : List ℕ} (ok : Runnable b) where
-  headed : Headed b
-  headed = is-headed (ok .opens) (ok .holds)
-
   pub few-nodes : count b ≤ 4096
-  few-nodes = headed .few-nodes
-
-  -- the eight bytes of a node are there
-  pub room : {i : ℕ} → i < count b → start (i + 1) ≤ length b
-  room h = omega (arith, headed .all-bytes)
+  few-nodes = is-headed (ok .opens) (ok .holds) .few-nodes
 
   pub node-low : (y : Work) → Seen b y → nodeOf y < 4294967296
   node-low (w.Node i) seen = omega (arith, few-nodes, seen .0)

@@ -21,7 +21,8 @@ use Rattle.l1.proofs.Outcomes.{run-then-end}
 use Rattle.stored.specs.Reader.{treeAt}
 use Rattle.stored.specs.Refusals.{locations, count, env}
 use Rattle.stored.proofs.Subtrees.{size-fits}
-use Rattle.routine.specs.Open.{rootOf, Runnable}
+use Rattle.routine.specs.declared.Sizes.{Sizes}
+use Rattle.routine.specs.Open.{SizesOf, rootOf, Runnable}
 use Rattle.routine.proofs.Standing.{root-depth, nodes-stand}
 use Rattle.machine.specs.Contexts.{Context, plug, left-to-search, all-left}
 use Rattle.machine.specs.State.{exprOf, Seen, searchOf, takesOf, contextOf, Held, redex, Stands, searchAt, blank, stack, after, HeldBy, growsOf, isOver, overAt, written, Within, ruleNo, madeBy, turnedBy, lastRule, meaning, LastStep, last-step, Moment, outcomeOf, endOf}
@@ -285,16 +286,17 @@ module _ {b : List ℕ} {s₀ s : Store} {p : Pending} {m : Machine} (i : Moment
   same at e = split b (p .frames) at (m .work) (p .height) e
 
   -- what `step` asks
-  pub may-step : (at : ℕ) → at + takesOf (m .work) ≡ p .height
+  pub may-step : (at : ℕ) {z : Sizes} → at + takesOf (m .work) ≡ p .height → SizesOf b z
       → Runnable b × Seen b (m .work) × Stands b (m .work) (placeAt p at) × (locations b ≤ length s)
-      × ((T : Ty) × (env b ⊢ redex b (m .work) (placeAt p at) ∶ T))
-  may-step at e =
+      × ((T : Ty) × (env b ⊢ redex b (m .work) (placeAt p at) ∶ T)) × SizesOf b z
+  may-step at e sizes =
       let t = subst (λ (x : Expr). env b ⊢ x ∶ i .runnable .type) (same at e) (run-keeps-type (i .run) (i .runnable .typed)) in (
         i .runnable,
         i .seen,
         stands b (p .frames) at (m .work) (p .height) e (i .held),
         omega (arith, keeps-length i, i .covered),
         plug-typed (stack b (p .frames) at) (redex b (m .work) (placeAt p at)) t,
+        sizes,
       )
 
   module _ {at : ℕ} {r : Next} (t : ActAt b s p m at r) where

@@ -16,7 +16,8 @@ use Rattle.stored.specs.Layout.{kind, child2, child3}
 use Rattle.stored.specs.Reader.{treeAt}
 use Rattle.stored.specs.Refusals.{locations, count, env}
 use Rattle.routine.specs.Forms.{formOf}
-use Rattle.routine.specs.Open.{Runnable}
+use Rattle.routine.specs.declared.Sizes.{Sizes}
+use Rattle.routine.specs.Open.{SizesOf, Runnable}
 use Rattle.machine.specs.Contexts.{Context, in-op1, in-op2, fill, left-to-search}
 use Rattle.machine.specs.State.{exprOf, Busy, Seen, searchOf, takesOf, nodeOf, numberOf, truthOf, contextOf, Held, redex, Stands, searchAt}
 use Rattle.machine.specs.Acts.{searched, worked, Gone, Sought, went-down, read-there, Summed}
@@ -72,11 +73,11 @@ abbrev pub Comes : List ℕ → Place → Work → Store → Turn → Type 0
 Comes b f y s t = Turned b (left-to-search (contextOf b f)) (fill (contextOf b f) (exprOf b y)) s t
 
 -- where the place f is known to be g
-pub in-place : (b : List ℕ) (y : Work) {f g : Place} {s : Store} {t : Turn}
-    → f ≡ g → Runnable b × (takesOf y ≡ 1) × Held b f × (locations b ≤ length s) × ((T : Ty) × (env b ⊢ fill (contextOf b f) (exprOf b y) ∶ T))
+pub in-place : (b : List ℕ) (y : Work) {f g : Place} {s : Store} {t : Turn} {z : Sizes}
+    → f ≡ g → Runnable b × (takesOf y ≡ 1) × Held b f × (locations b ≤ length s) × ((T : Ty) × (env b ⊢ fill (contextOf b f) (exprOf b y) ∶ T)) × SizesOf b z
     → (Filled b g y → Comes b g y s t)
     → Comes b f y s t
-in-place b y {f} {s = s} {t = t} q (ok, one, held, covered, (T, typed)) comes =
+in-place b y {f} {s = s} {t = t} q (ok, one, held, covered, (T, typed), sizes) comes =
     let value = typed-value b (asks (contextOf b f)) y one (part-typed (contextOf b f) typed) in
     let filled : Filled b f y = record { held = held; type = T; typed = typed; value = value } in
     subst (λ (g : Place). Comes b g y s t) (sym q) (comes (subst (λ (g : Place). Filled b g y) q filled))

@@ -17,11 +17,12 @@ ghost use Rattle.stored.specs.Layout.{kind};
 ghost use Rattle.stored.specs.Reader.{treeAt};
 ghost use Rattle.stored.specs.Refusals.{locations, count, env};
 ghost use Rattle.routine.specs.Forms.{formOf};
-ghost use Rattle.routine.specs.Open.{rootOf, Runnable};
+ghost use Rattle.routine.specs.Open.{SizesOf, rootOf, Runnable};
 ghost use Rattle.machine.specs.Contexts.{fill, left-to-search};
 ghost use Rattle.machine.specs.State.{exprOf, Busy, isDeref, Seen, takesOf, nodeOf, numberOf, truthOf, contextOf, Held, redex, Stands, searchAt, growsOf, isOver, overAt, written, Within, madeBy, turnedBy, lastRule, endOf, outcomeOf, meaning, Moment};
 ghost use Rattle.machine.specs.Acts.{Went, Stepped, Loaded, Gone, Sought, Summed};
 use routine::Form;
+use routine::Sizes;
 use sums::Sum;
 
 // A pending place: what waits for the value of the work. A number is the node that the place belongs to, but that of `Store` is the location
@@ -258,13 +259,13 @@ fn last_rule(rule: u64, before: u64) -> u64
 }
 
 // The work is the node c, or its value where it is a literal: a literal must be a value before the search goes on.
-fn load(b: &[u8], c: u32) -> Work
-    requires { ⌜ Runnable (now b) × (c < count (now b)) ⌝ }
+fn load(b: &[u8], z: Sizes, c: u32) -> Work
+    requires { ⌜ Runnable (now b) × (c < count (now b)) × SizesOf (now b) z ⌝ }
     ensures { λ r. ⌜ Loaded (now (b .entry)) c r ⌝ }
 {
-    match routine::form_at(b, c) {
-        Form::Integer => Work::Int(routine::integer_at(b, c)),
-        Form::Boolean => Work::Bool(routine::arg_at(b, c) == 1),
+    match routine::form_at(b, z, c) {
+        Form::Integer => Work::Int(routine::integer_at(b, z, c)),
+        Form::Boolean => Work::Bool(routine::arg_at(b, z, c) == 1),
         Form::Skip => Work::Skip,
         Form::Unknown => Work::Skip,
         Form::Plus => Work::Node(c as u64),
@@ -308,20 +309,20 @@ fn under(x: Work, top: Place, rule: u64) -> Turn
 }
 
 // The work goes to the node c, under the place that is pushed.
-fn down(b: &[u8], c: u32, top: Place, rule: u64) -> Turn
-    requires { ⌜ Runnable (now b) × (c < count (now b)) ⌝ }
+fn down(b: &[u8], z: Sizes, c: u32, top: Place, rule: u64) -> Turn
+    requires { ⌜ Runnable (now b) × (c < count (now b)) × SizesOf (now b) z ⌝ }
     ensures { λ r. ⌜ Gone (now (b .entry)) c Act.Push top rule r ⌝ }
 {
-    under(load(b, c), top, rule)
+    under(load(b, z, c), top, rule)
 }
 
 // The work goes to the node c by a step that leaves no place of its own.
-fn leap(b: &[u8], c: u32, rule: u64) -> Turn
-    requires { ⌜ Runnable (now b) × (c < count (now b)) ⌝ }
+fn leap(b: &[u8], z: Sizes, c: u32, rule: u64) -> Turn
+    requires { ⌜ Runnable (now b) × (c < count (now b)) × SizesOf (now b) z ⌝ }
     ensures { λ r. ⌜ Gone (now (b .entry)) c Act.Rest Place.Blank rule r ⌝ }
 {
     Turn {
-        work: load(b, c),
+        work: load(b, z, c),
         act: Act::Rest,
         top: Place::Blank,
         rule: rule,
@@ -329,12 +330,12 @@ fn leap(b: &[u8], c: u32, rule: u64) -> Turn
 }
 
 // What `load` gives for an operand, which has the type int and so is no other literal.
-fn operand(b: &[u8], c: u32) -> Work
-    requires { ⌜ Runnable (now b) × (c < count (now b)) × (env (now b) ⊢ treeAt (now b) c ∶ tInt) ⌝ }
+fn operand(b: &[u8], z: Sizes, c: u32) -> Work
+    requires { ⌜ Runnable (now b) × (c < count (now b)) × (env (now b) ⊢ treeAt (now b) c ∶ tInt) × SizesOf (now b) z ⌝ }
     ensures { λ r. ⌜ Loaded (now (b .entry)) c r ⌝ }
 {
-    match routine::form_at(b, c) {
-        Form::Integer => Work::Int(routine::integer_at(b, c)),
+    match routine::form_at(b, z, c) {
+        Form::Integer => Work::Int(routine::integer_at(b, z, c)),
         Form::Boolean => Work::Node(c as u64),
         Form::Skip => Work::Node(c as u64),
         Form::Unknown => Work::Node(c as u64),
@@ -349,15 +350,15 @@ fn operand(b: &[u8], c: u32) -> Work
 }
 
 // The search goes to the operand c, and reads it at once where it is a dereference: the step that the search would come to next.
-fn seek(b: &[u8], s: &[i32], c: u32, top: Place) -> Turn
-    requires { ⌜ Runnable (now b) × (c < count (now b)) × (locations (now b) ≤ length (now s)) × (env (now b) ⊢ treeAt (now b) c ∶ tInt) ⌝ }
+fn seek(b: &[u8], z: Sizes, s: &[i32], c: u32, top: Place) -> Turn
+    requires { ⌜ Runnable (now b) × (c < count (now b)) × (locations (now b) ≤ length (now s)) × (env (now b) ⊢ treeAt (now b) c ∶ tInt) × SizesOf (now b) z ⌝ }
     ensures { λ r. ⌜ Sought (now (b .entry)) (now (s .entry)) c top r ⌝ }
 {
-    if is_deref(routine::form_at(b, c)) {
-        let l = routine::wide(routine::arg_at(b, c));
+    if is_deref(routine::form_at(b, z, c)) {
+        let l = routine::wide(routine::arg_at(b, z, c));
         under(Work::Int(s[l]), top, DEREF)
     } else {
-        under(operand(b, c), top, SEARCH)
+        under(operand(b, z, c), top, SEARCH)
     }
 }
 
@@ -374,25 +375,25 @@ fn comes_to(x: Work, act: Act, rule: u64) -> Turn
 }
 
 // A node that is no literal: the search goes to its first part, but a dereference and a while make a step.
-fn at_node(b: &[u8], s: &[i32], i: u32) -> Turn
-    requires { ⌜ Runnable (now b) × (i < count (now b)) × Busy (formOf (kind (now b) i)) × (locations (now b) ≤ length (now s)) × ((T : Ty) × (env (now b) ⊢ treeAt (now b) i ∶ T)) ⌝ }
+fn at_node(b: &[u8], z: Sizes, s: &[i32], i: u32) -> Turn
+    requires { ⌜ Runnable (now b) × (i < count (now b)) × Busy (formOf (kind (now b) i)) × (locations (now b) ≤ length (now s)) × ((T : Ty) × (env (now b) ⊢ treeAt (now b) i ∶ T)) × SizesOf (now b) z ⌝ }
     ensures { λ r. ⌜ Went (now (b .entry)) (2 * size (treeAt (now (b .entry)) i)) (treeAt (now (b .entry)) i) (now (s .entry)) (r .work) (r .act) (r .top) (r .rule) ⌝ }
 {
-    match routine::form_at(b, i) {
-        Form::Plus => seek(b, s, routine::first_at(b, i), Place::PlusLeft(i)),
-        Form::Geq => seek(b, s, routine::first_at(b, i), Place::GeqLeft(i)),
-        Form::If => down(b, routine::first_at(b, i), Place::Test(i), SEARCH),
+    match routine::form_at(b, z, i) {
+        Form::Plus => seek(b, z, s, routine::first_at(b, z, i), Place::PlusLeft(i)),
+        Form::Geq => seek(b, z, s, routine::first_at(b, z, i), Place::GeqLeft(i)),
+        Form::If => down(b, z, routine::first_at(b, z, i), Place::Test(i), SEARCH),
         Form::Assign => {
-            let l = short(routine::arg_at(b, i));
-            seek(b, s, routine::first_at(b, i), Place::Store(l))
+            let l = short(routine::arg_at(b, z, i));
+            seek(b, z, s, routine::first_at(b, z, i), Place::Store(l))
         }
         Form::Seq => {
-            let j = routine::second_at(b, i);
-            down(b, routine::first_at(b, i), Place::First(j), SEARCH)
+            let j = routine::second_at(b, z, i);
+            down(b, z, routine::first_at(b, z, i), Place::First(j), SEARCH)
         }
-        Form::While => down(b, routine::first_at(b, i), Place::Again(i), WHILE),
+        Form::While => down(b, z, routine::first_at(b, z, i), Place::Again(i), WHILE),
         Form::Deref => {
-            let l = routine::wide(routine::arg_at(b, i));
+            let l = routine::wide(routine::arg_at(b, z, i));
             comes_to(Work::Int(s[l]), Act::Rest, DEREF)
         }
         Form::Integer => comes_to(Work::Skip, Act::Rest, SEARCH),
@@ -413,31 +414,31 @@ fn plus_at(i: u32, l: i32, v: i32) -> Turn
 }
 
 // A value in the place on top.
-fn at_value(b: &[u8], s: &[i32], f: Place, x: Work) -> Turn
-    requires { ⌜ Runnable (now b) × (takesOf x ≡ 1) × Held (now b) f × (locations (now b) ≤ length (now s)) × ((T : Ty) × (env (now b) ⊢ fill (contextOf (now b) f) (exprOf (now b) x) ∶ T)) ⌝ }
+fn at_value(b: &[u8], z: Sizes, s: &[i32], f: Place, x: Work) -> Turn
+    requires { ⌜ Runnable (now b) × (takesOf x ≡ 1) × Held (now b) f × (locations (now b) ≤ length (now s)) × ((T : Ty) × (env (now b) ⊢ fill (contextOf (now b) f) (exprOf (now b) x) ∶ T)) × SizesOf (now b) z ⌝ }
     ensures { λ r. ⌜ Went (now (b .entry)) (left-to-search (contextOf (now (b .entry)) f)) (fill (contextOf (now (b .entry)) f) (exprOf (now (b .entry)) x)) (now (s .entry)) (r .work) (r .act) (r .top) (r .rule) ⌝ }
 {
     match f {
         Place::PlusLeft(i) => {
             let v = number(x);
-            seek(b, s, routine::second_at(b, i), Place::PlusRight(i, v))
+            seek(b, z, s, routine::second_at(b, z, i), Place::PlusRight(i, v))
         }
         Place::GeqLeft(i) => {
             let v = number(x);
-            seek(b, s, routine::second_at(b, i), Place::GeqRight(i, v))
+            seek(b, z, s, routine::second_at(b, z, i), Place::GeqRight(i, v))
         }
         Place::PlusRight(i, l) => plus_at(i, l, number(x)),
         Place::GeqRight(_, l) => comes_to(Work::Bool(sums::geq(l, number(x))), Act::Rest, GEQ),
         Place::Test(i) => {
             if truth(x) {
-                leap(b, routine::second_at(b, i), IF_TRUE)
+                leap(b, z, routine::second_at(b, z, i), IF_TRUE)
             } else {
-                leap(b, routine::third_at(b, i), IF_FALSE)
+                leap(b, z, routine::third_at(b, z, i), IF_FALSE)
             }
         }
         Place::Again(i) => {
             if truth(x) {
-                down(b, routine::second_at(b, i), Place::First(i), IF_TRUE)
+                down(b, z, routine::second_at(b, z, i), Place::First(i), IF_TRUE)
             } else {
                 comes_to(Work::Skip, Act::Rest, IF_FALSE)
             }
@@ -446,32 +447,32 @@ fn at_value(b: &[u8], s: &[i32], f: Place, x: Work) -> Turn
             let v = number(x);
             comes_to(Work::Skip, Act::Write(l, v), ASSIGN)
         }
-        Place::First(j) => leap(b, j, SEQ),
+        Place::First(j) => leap(b, z, j, SEQ),
         Place::Blank => comes_to(Work::Skip, Act::Rest, SEARCH),
     }
 }
 
 // One act at the work x, f being the place on top where x is a value.
-fn act_at(b: &[u8], s: &[i32], f: Place, x: Work) -> Turn
-    requires { ⌜ Runnable (now b) × Seen (now b) x × Stands (now b) x f × (locations (now b) ≤ length (now s)) × ((T : Ty) × (env (now b) ⊢ redex (now b) x f ∶ T)) ⌝ }
+fn act_at(b: &[u8], z: Sizes, s: &[i32], f: Place, x: Work) -> Turn
+    requires { ⌜ Runnable (now b) × Seen (now b) x × Stands (now b) x f × (locations (now b) ≤ length (now s)) × ((T : Ty) × (env (now b) ⊢ redex (now b) x f ∶ T)) × SizesOf (now b) z ⌝ }
     ensures { λ r. ⌜ Went (now (b .entry)) (searchAt (now (b .entry)) x f) (redex (now (b .entry)) x f) (now (s .entry)) (r .work) (r .act) (r .top) (r .rule) ⌝ }
 {
     if takes(x) == 0 {
-        at_node(b, s, node_of(x))
+        at_node(b, z, s, node_of(x))
     } else {
-        at_value(b, s, f, x)
+        at_value(b, z, s, f, x)
     }
 }
 
 impl Machine {
     // One act: a move of the search, or a step. The store is not written here: the act says what is to be written.
-    pub fn step(mut self, f: Place, b: &[u8], s: &[i32]) -> Next
-        requires { ⌜ Runnable (now b) × Seen (now b) (self .work) × Stands (now b) (self .work) f × (locations (now b) ≤ length (now s)) × ((T : Ty) × (env (now b) ⊢ redex (now b) (self .work) f ∶ T)) ⌝ }
+    pub fn step(mut self, f: Place, b: &[u8], z: Sizes, s: &[i32]) -> Next
+        requires { ⌜ Runnable (now b) × Seen (now b) (self .work) × Stands (now b) (self .work) f × (locations (now b) ≤ length (now s)) × ((T : Ty) × (env (now b) ⊢ redex (now b) (self .work) f ∶ T)) × SizesOf (now b) z ⌝ }
         requires { ⌜ (self .steps < 8589934592) × (self .loops < 8589934592) ⌝ }
         ensures { λ r. ⌜ Stepped (now (b .entry)) (searchAt (now (b .entry)) (self .work) f) (redex (now (b .entry)) (self .work) f) (now (s .entry)) self r ⌝ }
     {
         let x = self.work;
-        let t = act_at(b, s, f, x);
+        let t = act_at(b, z, s, f, x);
         let rule = t.rule;
         self.steps = self.steps + made(rule);
         self.loops = self.loops + turned(rule);
@@ -493,12 +494,12 @@ impl Machine {
 }
 
 // The machine before the first step.
-pub fn start(b: &[u8], root: u32) -> Machine
-    requires { ⌜ Runnable (now b) × (root + 1 ≡ count (now b)) ⌝ }
+pub fn start(b: &[u8], z: Sizes, root: u32) -> Machine
+    requires { ⌜ Runnable (now b) × (root + 1 ≡ count (now b)) × SizesOf (now b) z ⌝ }
     ensures { λ r. ⌜ Loaded (now (b .entry)) root (r .work) × (r .steps ≡ 0) × (r .loops ≡ 0) × (r .rule ≡ 0) ⌝ }
 {
     Machine {
-        work: load(b, root),
+        work: load(b, z, root),
         steps: 0,
         loops: 0,
         rule: SEARCH,
@@ -519,12 +520,12 @@ pub fn no_places() -> Pending
 }
 
 // On from a moment until the run ends or has made `limit` steps in all.
-pub fn go_on(b: &[u8], pending: Pending, machine: Machine, s: &mut [i32], limit: u64) -> Paused
-    requires { ⌜ (limit < 4294967296) × (machine .steps ≤ limit) × ((s₀ : Store) × Moment (now b) s₀ (now s) pending machine) ⌝ }
-    ensures { λ r. ⌜ ((s₀ : Store) → Moment (now (b .entry)) s₀ (now (s .entry)) pending machine → Moment (now (b .entry)) s₀ (now (s .exit)) (r .pending) (r .machine) × Yields limit (rootOf (now (b .entry))) s₀ (answer (outcomeOf (r .ending)) (r .machine .steps) (r .machine .loops) (meaning (now (b .entry)) (r .pending) (r .machine)) (now (s .exit)))) ⌝ }
+pub fn go_on(b: &[u8], z: Sizes, stack: Pending, from: Machine, s: &mut [i32], limit: u64) -> Paused
+    requires { ⌜ (limit < 4294967296) × (from .steps ≤ limit) × ((s₀ : Store) × Moment (now b) s₀ (now s) stack from) × SizesOf (now b) z ⌝ }
+    ensures { λ r. ⌜ ((s₀ : Store) → Moment (now (b .entry)) s₀ (now (s .entry)) stack from → Moment (now (b .entry)) s₀ (now (s .exit)) (r .pending) (r .machine) × Yields limit (rootOf (now (b .entry))) s₀ (answer (outcomeOf (r .ending)) (r .machine .steps) (r .machine .loops) (meaning (now (b .entry)) (r .pending) (r .machine)) (now (s .exit)))) ⌝ }
 {
-    let mut p = pending;
-    let mut m = machine;
+    let mut p = stack;
+    let mut m = from;
     let out = loop {
         let x = m.work;
         let at = if takes(x) == 0 {
@@ -536,7 +537,7 @@ pub fn go_on(b: &[u8], pending: Pending, machine: Machine, s: &mut [i32], limit:
         };
         let frame = p.frames[at];
         let place = frame.place;
-        let next = m.step(place, b, s);
+        let next = m.step(place, b, z, s);
         let act = next.act;
         if is_over(act) {
             break Ending::Overflow(over_at(act));

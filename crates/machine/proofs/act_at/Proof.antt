@@ -14,7 +14,7 @@ node-is-ready c κs =
     let z = t .before .before in
     let q = is-node (z .args .x) (sym (t .takes .ensures) ∙ c .before .if1 .taken) ∙ ap w.Node (sym (c .node-of .ensures)) in
     let h = as-node (now (z .args .b)) (z .args .f) q (z .pre .1) (z .pre .4) in
-    (z .pre .0, h .0, h .1, z .pre .3, h .2)
+    (z .pre .0, h .0, h .1, z .pre .3, h .2, z .pre .5)
 
 value-is-ready : tie.Need-at-value-requires
 value-is-ready c κs =
@@ -22,7 +22,7 @@ value-is-ready c κs =
     let z = t .before .before in
     let q = is-value (z .args .x) (λ none. c .if1 .left (t .takes .ensures ∙ none)) in
     let h = as-value (now (z .args .b)) (z .args .f) (z .args .x) q (z .pre .2) (z .pre .4) in
-    (z .pre .0, q, h .0, z .pre .3, h .1)
+    (z .pre .0, q, h .0, z .pre .3, h .1, z .pre .5)
 
 node-acts : tie.Need-returns
 node-acts c =

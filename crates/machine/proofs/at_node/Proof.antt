@@ -1,5 +1,5 @@
 -- `machine::at_node` meets its contract: at each form the search goes down to the first part, but a loop unfolds and a dereference reads.
-use Prim.Native.Nat.{ℕ, _+_, _<_, _≤_}
+use Prim.Native.Nat.{ℕ, _<_, _≤_}
 use native.Mathlib.Nat.{lt-trans, lt-of-lt-of-le}
 use native.Mathlib.Omega.{arith}
 use mathlib.Core.Path.{_≡_, refl, sym, ap, _∙_}
@@ -9,7 +9,7 @@ use mir.Syntax.{w32}
 use mir.ValLaws.{toZ-ofZ}
 use denote.Ref.{now}
 use borrow.Author.Needs.{needs}
-use Rattle.stored.specs.Layout.{start, kind, arg}
+use Rattle.stored.specs.Layout.{kind, arg}
 use Rattle.l1.specs.Syntax.{Ty}
 use Rattle.l1.specs.Typing.{_⊢_∶_}
 use Rattle.stored.specs.Reader.{treeAt}
@@ -17,10 +17,11 @@ use Rattle.stored.specs.Refusals.{locations, count, env}
 use Rattle.routine.specs.declared.Form.{Form}
 use Rattle.routine.specs.declared.Form.the-variants.{Deref}
 use Rattle.routine.specs.Forms.{formOf, Before}
-use Rattle.routine.specs.Open.{Runnable}
+use Rattle.routine.specs.Open.{SizesOf, IsOpen, Runnable}
+use Rattle.routine.proofs.Standing.{may-read}
 use Rattle.machine.specs.State.{Busy}
 use Rattle.machine.specs.declared.Place.the-variants as p
-use Rattle.machine.proofs.NodeActs.{room, kids-of, not-busy, down, seeks, operand-typed, sought-by, unfolds, derefs, deref-below, came-to, gone-by, below}
+use Rattle.machine.proofs.NodeActs.{kids-of, not-busy, down, seeks, operand-typed, sought-by, unfolds, derefs, deref-below, came-to, gone-by, below}
 use Rattle.machine.proofs.at_node.Statement.{statement}
 use Rattle.machine.proofs.at_node.Tie as tie
 
@@ -44,8 +45,11 @@ module _ (f : tie.After-form-at) where
   typed : (T : Ty) × (env (bytes f) ⊢ treeAt (bytes f) (node f) ∶ T)
   typed = f .before .before .pre .4
 
-  there : start (node f + 1) ≤ length (bytes f)
-  there = room ok lt
+  sizes : SizesOf (bytes f) (f .before .before .args .z)
+  sizes = f .before .before .pre .5
+
+  there : IsOpen (bytes f) (f .before .before .args .z) × (node f < f .before .before .args .z .nodes)
+  there = may-read ok sizes lt
 
   is : {F : Form} → f .form-at .result ≡ F → formOf (kind (bytes f) (node f)) ≡ F
   is told = sym (f .form-at .ensures) ∙ told
@@ -67,25 +71,25 @@ pub at-node-spec : {M : Type 1} → statement M
 at-node-spec =
     tie.close
     (tie.spec
-    (λ c κs. room (c .before .pre .0) (c .before .pre .1))
+    (λ c κs. let z = c .before in may-read (z .pre .0) (z .pre .5) (z .pre .1))
     -- plus
     (λ c. search needs)
     (λ c κs. there (c .before .before))
     (λ c κs.
     let f = c .before .before .before in
     let told = c .before .enum-told .given .1 in
-    (ok f, child f (c .first-at .ensures) (kids f told .0), covered f, operand-typed (ok f) (lt f) (is f told) (p.PlusLeft (node f)) (c .first-at .ensures) refl (typed f)))
+    (ok f, child f (c .first-at .ensures) (kids f told .0), covered f, operand-typed (ok f) (lt f) (is f told) (p.PlusLeft (node f)) (c .first-at .ensures) refl (typed f), sizes f))
     -- ≥
     (λ c. search needs)
     (λ c κs. there (c .before .before))
     (λ c κs.
     let f = c .before .before .before in
     let told = c .before .enum-told2 .given .1 in
-    (ok f, child f (c .first-at2 .ensures) (kids f told .0), covered f, operand-typed (ok f) (lt f) (is f told) (p.GeqLeft (node f)) (c .first-at2 .ensures) refl (typed f)))
+    (ok f, child f (c .first-at2 .ensures) (kids f told .0), covered f, operand-typed (ok f) (lt f) (is f told) (p.GeqLeft (node f)) (c .first-at2 .ensures) refl (typed f), sizes f))
     -- if
     (λ c. search needs)
     (λ c κs. there (c .before .before))
-    (λ c κs. let f = c .before .before .before in (ok f, child f (c .first-at3 .ensures) (kids f (c .before .enum-told3 .given .1) .0)))
+    (λ c κs. let f = c .before .before .before in (ok f, child f (c .first-at3 .ensures) (kids f (c .before .enum-told3 .given .1) .0), sizes f))
     -- assignment
     (λ c. search needs)
     (λ c κs. there (c .before .before))
@@ -95,16 +99,16 @@ at-node-spec =
     let f = c .before .before .before .before .before in
     let told = c .before .before .before .enum-told4 .given .1 in
     let first = c .first-at4 .ensures in
-    (ok f, child f first (kids f told), covered f, operand-typed (ok f) (lt f) (is f told) (p.Store (arg (bytes f) (node f))) first refl (typed f)))
+    (ok f, child f first (kids f told), covered f, operand-typed (ok f) (lt f) (is f told) (p.Store (arg (bytes f) (node f))) first refl (typed f), sizes f))
     -- sequence
     (λ c. search needs)
     (λ c κs. there (c .before .before))
     (λ c κs. there (c .before .before .before))
-    (λ c κs. let f = c .before .before .before .before in (ok f, child f (c .first-at5 .ensures) (kids f (c .before .before .enum-told5 .given .1) .0)))
+    (λ c κs. let f = c .before .before .before .before in (ok f, child f (c .first-at5 .ensures) (kids f (c .before .before .enum-told5 .given .1) .0), sizes f))
     -- while
     (λ c. search needs)
     (λ c κs. there (c .before .before))
-    (λ c κs. let f = c .before .before .before in (ok f, child f (c .first-at6 .ensures) (kids f (c .before .enum-told6 .given .1) .0)))
+    (λ c κs. let f = c .before .before .before in (ok f, child f (c .first-at6 .ensures) (kids f (c .before .enum-told6 .given .1) .0), sizes f))
     -- dereference
     (λ c. search needs)
     (λ c κs. there (c .before .before))

@@ -4,9 +4,10 @@ use mir.Syntax.{w32}
 use mir.ValLaws.{toZ-ofZ}
 use denote.Ref.{now}
 use borrow.Author.Needs.{needs}
+use Rattle.routine.proofs.Standing.{may-read}
 use Rattle.machine.specs.State.{exprOf, contextOf, Held}
 use Rattle.machine.specs.declared.Place.the-variants as p
-use Rattle.machine.proofs.NodeActs.{room, below, gone-by, sought-by}
+use Rattle.machine.proofs.NodeActs.{below, gone-by, sought-by}
 use Rattle.machine.proofs.ValueActs.{in-place, right-operand-typed, across, adds, compares, chooses-true, chooses-false, repeats, leaves, stores, goes-on}
 use Rattle.machine.proofs.at_value.Statement.{statement}
 use Rattle.machine.proofs.at_value.Tie as tie
@@ -23,6 +24,7 @@ right-of-sum-is-node c κs =
       right-operand-typed (now (z .args .b)) (z .args .f) (exprOf (now (z .args .b)) (z .args .x)) (c .second-at .ensures)
           (ap (contextOf (now (z .args .b))) (k .f .given .1))
           (z .pre .4),
+      z .pre .5,
     )
 
 right-of-comparison-is-node : tie.Need-seek-requires-2
@@ -35,25 +37,26 @@ right-of-comparison-is-node c κs =
       right-operand-typed (now (z .args .b)) (z .args .f) (exprOf (now (z .args .b)) (z .args .x)) (c .second-at2 .ensures)
           (ap (contextOf (now (z .args .b))) (k .f2 .given .1))
           (z .pre .4),
+      z .pre .5,
     )
 
 second-of-if-is-node : tie.Need-leap-requires
 second-of-if-is-node c κs =
     let k = c .before .before .before .before in
     let z = k .before .before .before in
-    (z .pre .0, below (c .second-at3 .ensures) (subst (Held _) (k .f5 .given .1) (z .pre .2) .1))
+    (z .pre .0, below (c .second-at3 .ensures) (subst (Held _) (k .f5 .given .1) (z .pre .2) .1), z .pre .5)
 
 third-of-if-is-node : tie.Need-leap-requires-2
 third-of-if-is-node c κs =
     let k = c .before .before .before .before in
     let z = k .before .before .before in
-    (z .pre .0, below (c .third-at .ensures) (subst (Held _) (k .f5 .given .1) (z .pre .2) .2))
+    (z .pre .0, below (c .third-at .ensures) (subst (Held _) (k .f5 .given .1) (z .pre .2) .2), z .pre .5)
 
 body-is-node : tie.Need-down-requires
 body-is-node c κs =
     let k = c .before .before .before .before in
     let z = k .before .before .before in
-    (z .pre .0, below (c .second-at4 .ensures) (subst (Held _) (k .f6 .given .1) (z .pre .2) .1))
+    (z .pre .0, below (c .second-at4 .ensures) (subst (Held _) (k .f6 .given .1) (z .pre .2) .1), z .pre .5)
 
 -- ---- what the value comes to in each place
 
@@ -160,11 +163,11 @@ at-value-spec =
     (tie.spec
     (λ c. search needs)
     (λ c κs. search needs)
-    (λ c κs. let k = c .before .before in let z = k .before .before .before in room (z .pre .0) (subst (Held _) (k .f .given .1) (z .pre .2) .0))
+    (λ c κs. let k = c .before .before in let z = k .before .before .before in may-read (z .pre .0) (z .pre .5) (subst (Held _) (k .f .given .1) (z .pre .2) .0))
     right-of-sum-is-node
     (λ c. search needs)
     (λ c κs. search needs)
-    (λ c κs. let k = c .before .before in let z = k .before .before .before in room (z .pre .0) (subst (Held _) (k .f2 .given .1) (z .pre .2) .0))
+    (λ c κs. let k = c .before .before in let z = k .before .before .before in may-read (z .pre .0) (z .pre .5) (subst (Held _) (k .f2 .given .1) (z .pre .2) .0))
     right-of-comparison-is-node
     (λ c. search needs)
     (λ c κs. search needs)
@@ -175,20 +178,20 @@ at-value-spec =
     (λ c κs. search needs)
     (λ c. search needs)
     (λ c κs. search needs)
-    (λ c κs. let k = c .before .before .before in let z = k .before .before .before in room (z .pre .0) (subst (Held _) (k .f5 .given .1) (z .pre .2) .0))
+    (λ c κs. let k = c .before .before .before in let z = k .before .before .before in may-read (z .pre .0) (z .pre .5) (subst (Held _) (k .f5 .given .1) (z .pre .2) .0))
     second-of-if-is-node
-    (λ c κs. let k = c .before .before .before in let z = k .before .before .before in room (z .pre .0) (subst (Held _) (k .f5 .given .1) (z .pre .2) .0))
+    (λ c κs. let k = c .before .before .before in let z = k .before .before .before in may-read (z .pre .0) (z .pre .5) (subst (Held _) (k .f5 .given .1) (z .pre .2) .0))
     third-of-if-is-node
     (λ c. search needs)
     (λ c κs. search needs)
-    (λ c κs. let k = c .before .before .before in let z = k .before .before .before in room (z .pre .0) (subst (Held _) (k .f6 .given .1) (z .pre .2) .0))
+    (λ c κs. let k = c .before .before .before in let z = k .before .before .before in may-read (z .pre .0) (z .pre .5) (subst (Held _) (k .f6 .given .1) (z .pre .2) .0))
     body-is-node
     (λ c κs. search needs)
     (λ c. search needs)
     (λ c κs. search needs)
     (λ c κs. search needs)
     (λ c. search needs)
-    (λ c κs. let z = c .before .before .before .before in (z .pre .0, subst (Held _) (c .before .f8 .given .1) (z .pre .2)))
+    (λ c κs. let z = c .before .before .before .before in (z .pre .0, subst (Held _) (c .before .f8 .given .1) (z .pre .2), z .pre .5))
     (λ c. search needs)
     (λ c κs. search needs)
     left-of-sum

@@ -15,10 +15,10 @@ use Rattle.machine.proofs.go_on.Statement.{statement}
 use Rattle.machine.proofs.go_on.Tie as tie
 
 abbrev Inv-loop : tie.InvT-loop
-Inv-loop b s₀ limit p₀ m₀ s p m = ((z : Store) → Moment b z s₀ p₀ m₀ → Moment b z s p m) × (m .steps ≤ limit)
+Inv-loop b sizes s₀ limit p₀ m₀ s p m = ((z : Store) → Moment b z s₀ p₀ m₀ → Moment b z s p m) × (m .steps ≤ limit)
 
 abbrev μ-loop : tie.MeasureT-loop
-μ-loop b s₀ limit p₀ m₀ s p m = left b limit p m
+μ-loop b sizes s₀ limit p₀ m₀ s p m = left b limit p m
 
 -- the moment at the loop's head, of the run that the caller has
 here : (c : tie.At-loop Inv-loop μ-loop)
@@ -73,7 +73,7 @@ step-requires c κs =
     let l = j .before .before in
     let few = l .before .before .pre .0 in
     let low = l .loop .inv .1 in
-    (may-step (here l) (j .if1 .at) (parts j), (omega arith, omega (arith, loops-fit (here l))))
+    (may-step (here l) (j .if1 .at) (parts j) (l .before .before .pre .3), (omega arith, omega (arith, loops-fit (here l))))
 
 height-grows : tie.Need-add-p Inv-loop μ-loop
 height-grows c =

@@ -12,11 +12,12 @@ use Rattle.stored.specs.Layout.{kind}
 use Rattle.stored.specs.Reader.{treeAt}
 use Rattle.routine.specs.declared.Form.{Form}
 use Rattle.routine.specs.Forms.{formOf, make, Before}
+use Rattle.routine.proofs.Standing.{may-read}
 use Rattle.machine.specs.State.{exprOf, Busy, Seen, searchOf}
 use Rattle.machine.specs.Acts.{Loaded}
 use Rattle.machine.specs.declared.Work.{Work}
 use Rattle.machine.specs.declared.Work.the-variants as w
-use Rattle.machine.proofs.NodeActs.{room, load-node, load-leaf, kids-of}
+use Rattle.machine.proofs.NodeActs.{load-node, load-leaf, kids-of}
 use Rattle.machine.proofs.load.Statement.{statement}
 use Rattle.machine.proofs.load.Tie as tie
 
@@ -46,11 +47,11 @@ pub load-spec : {M : Type 1} → statement M
 load-spec =
     tie.close
     (tie.spec
-    (λ c κs. room (c .before .pre .0) (c .before .pre .1))
+    (λ c κs. let s = c .before in may-read (s .pre .0) (s .pre .2) (s .pre .1))
     (λ c. search needs)
-    (λ c κs. let s = c .before .before .before .before in room (s .pre .0) (s .pre .1))
+    (λ c κs. let s = c .before .before .before .before in may-read (s .pre .0) (s .pre .2) (s .pre .1))
     (λ c. search needs)
-    (λ c κs. let s = c .before .before .before .before in room (s .pre .0) (s .pre .1))
+    (λ c κs. let s = c .before .before .before .before in may-read (s .pre .0) (s .pre .2) (s .pre .1))
     (λ c. search needs)
     (λ c. search needs)
     (λ c. search needs)

@@ -13,10 +13,11 @@ use Rattle.stored.specs.Reader.{treeAt}
 use Rattle.stored.specs.Refusals.{env}
 use Rattle.routine.specs.declared.Form.{Form}
 use Rattle.routine.specs.Forms.{formOf, make, Before}
+use Rattle.routine.proofs.Standing.{may-read}
 use Rattle.machine.specs.State.{Busy}
 use Rattle.machine.specs.Acts.{Loaded}
 use Rattle.machine.specs.declared.Work.the-variants as w
-use Rattle.machine.proofs.NodeActs.{room, load-node, load-leaf, kids-of, typed-as, bool-no-int, skip-no-int}
+use Rattle.machine.proofs.NodeActs.{load-node, load-leaf, kids-of, typed-as, bool-no-int, skip-no-int}
 use Rattle.machine.proofs.operand.Statement.{statement}
 use Rattle.machine.proofs.operand.Tie as tie
 
@@ -53,9 +54,9 @@ pub operand-spec : {M : Type 1} → statement M
 operand-spec =
     tie.close
     (tie.spec
-    (λ c κs. room (c .before .pre .0) (c .before .pre .1))
+    (λ c κs. let s = c .before in may-read (s .pre .0) (s .pre .3) (s .pre .1))
     (λ c. search needs)
-    (λ c κs. let s = c .before .before .before .before in room (s .pre .0) (s .pre .1))
+    (λ c κs. let s = c .before .before .before .before in may-read (s .pre .0) (s .pre .3) (s .pre .1))
     (λ c. search needs)
     (λ c. search needs)
     (λ c. search needs)

@@ -11,9 +11,10 @@ use borrow.Author.Needs.{needs}
 use Rattle.stored.specs.Layout.{kind, arg}
 use Rattle.routine.specs.declared.Form.the-variants.{Deref}
 use Rattle.routine.specs.Forms.{formOf}
+use Rattle.routine.proofs.Standing.{may-read}
 use Rattle.machine.specs.Acts.{went-down, read-there}
 use Rattle.machine.specs.declared.Work.the-variants as w
-use Rattle.machine.proofs.NodeActs.{room, below, gone-under, deref-told, deref-tree, deref-below}
+use Rattle.machine.proofs.NodeActs.{below, gone-under, deref-told, deref-tree, deref-below}
 use Rattle.machine.proofs.seek.Statement.{statement}
 use Rattle.machine.proofs.seek.Tie as tie
 
@@ -50,14 +51,14 @@ pub seek-spec : {M : Type 1} → statement M
 seek-spec =
     tie.close
     (tie.spec
-    (λ c κs. room (c .before .pre .0) (c .before .pre .1))
+    (λ c κs. let z = c .before in may-read (z .pre .0) (z .pre .4) (z .pre .1))
     (λ c κs. search needs)
-    (λ c κs. let z = c .before .before .before .before in room (z .pre .0) (z .pre .1))
+    (λ c κs. let z = c .before .before .before .before in may-read (z .pre .0) (z .pre .4) (z .pre .1))
     (λ c κs. search needs)
     (λ c. search needs)
     (λ c. in-store c)
     (λ c κs. search needs)
-    (λ c κs. let z = c .before .before .before .before in (z .pre .0, z .pre .1, z .pre .3))
+    (λ c κs. let z = c .before .before .before .before in (z .pre .0, z .pre .1, z .pre .3, z .pre .4))
     (λ c κs. search needs)
     reads
     (λ c. went-down (gone-under (c .before .operand .ensures) (c .under2 .ensures))))
