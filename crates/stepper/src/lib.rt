@@ -6,12 +6,13 @@ ghost use mathlib.Core.Path.{_≡_};
 ghost use Prim.Native.Nat.{_≤_, _<_};
 ghost use Rattle.l1.specs.Store.{Store};
 ghost use Rattle.l1.specs.Run.{Yields, answer};
-ghost use Rattle.routine.specs.Open.{rootOf};
+ghost use Rattle.routine.specs.Open.{SizesOf, rootOf};
 ghost use Rattle.machine.specs.State.{outcomeOf, meaning, Moment};
 ghost use Rattle.stepper.specs.Lent.{tagOf, nodeIn, integerIn, placeOf, pendingOf};
 use machine::Ending;
 use machine::Machine;
 use machine::Place;
+use routine::Sizes;
 
 // Where a run stands when it ends or its fuel is spent; the places are in the slices that were lent.
 pub struct Stand {
@@ -88,6 +89,7 @@ pub fn place_of(tag: u8, i: u32, n: i32) -> Place
 // On from a moment until the run ends or has made `limit` steps in all.
 pub fn go_to(
     b: &[u8],
+    z: Sizes,
     tags: &mut [u8],
     nodes: &mut [u32],
     integers: &mut [i32],
@@ -96,7 +98,7 @@ pub fn go_to(
     s: &mut [i32],
     limit: u64,
 ) -> Stand
-    requires { ⌜ (limit < 4294967296) × (machine .steps ≤ limit) × ((s₀ : Store) × Moment (now b) s₀ (now s) (pendingOf (now tags) (now nodes) (now integers) height) machine) ⌝ }
+    requires { ⌜ (limit < 4294967296) × (machine .steps ≤ limit) × ((s₀ : Store) × Moment (now b) s₀ (now s) (pendingOf (now tags) (now nodes) (now integers) height) machine) × SizesOf (now b) z ⌝ }
     ensures { λ r. ⌜ ((s₀ : Store) → Moment (now (b .entry)) s₀ (now (s .entry)) (pendingOf (now (tags .entry)) (now (nodes .entry)) (now (integers .entry)) height) machine → Moment (now (b .entry)) s₀ (now (s .exit)) (pendingOf (now (tags .exit)) (now (nodes .exit)) (now (integers .exit)) (r .height)) (r .machine) × Yields limit (rootOf (now (b .entry))) s₀ (answer (outcomeOf (r .ending)) (r .machine .steps) (r .machine .loops) (meaning (now (b .entry)) (pendingOf (now (tags .exit)) (now (nodes .exit)) (now (integers .exit)) (r .height)) (r .machine)) (now (s .exit)))) ⌝ }
 {
     let mut h = height;
@@ -109,7 +111,7 @@ pub fn go_to(
         }
         let at = h - take;
         let place = place_of(tags[at], nodes[at], integers[at]);
-        let next = m.step(place, b, s);
+        let next = m.step(place, b, z, s);
         let act = next.act;
         if machine::is_over(act) {
             break Ending::Overflow(machine::over_at(act));

@@ -21,12 +21,12 @@ use Rattle.stepper.proofs.go_to.Statement.{statement}
 use Rattle.stepper.proofs.go_to.Tie as tie
 
 abbrev Inv-loop : tie.InvT-loop
-Inv-loop b tags₀ nodes₀ integers₀ height s₀ limit h₀ m₀ tags nodes integers s h m =
+Inv-loop b sizes tags₀ nodes₀ integers₀ height s₀ limit h₀ m₀ tags nodes integers s h m =
     ((z : Store) → Moment b z s₀ (pendingOf tags₀ nodes₀ integers₀ height) m₀ → Moment b z s (pendingOf tags nodes integers h) m) × (m .steps ≤ limit)
     × (length tags ≡ length tags₀) × (length nodes ≡ length nodes₀) × (length integers ≡ length integers₀)
 
 abbrev μ-loop : tie.MeasureT-loop
-μ-loop b tags₀ nodes₀ integers₀ height s₀ limit h₀ m₀ tags nodes integers s h m = left b limit (pendingOf tags nodes integers h) m
+μ-loop b sizes tags₀ nodes₀ integers₀ height s₀ limit h₀ m₀ tags nodes integers s h m = left b limit (pendingOf tags nodes integers h) m
 
 -- the moment at the loop's head, of the run that the caller has
 here : (c : tie.At-loop Inv-loop μ-loop)
@@ -100,7 +100,7 @@ step-requires c κs =
     let few = l .before .before .before .before .pre .0 in
     let low = l .loop .inv .1 in
     let e = parts (c .before .before .before .before .before) in (
-      rw (← place-is (c .before)) at (may-step (here l) (at (c .before .before .before .before .before .before)) e),
+      rw (← place-is (c .before)) at (may-step (here l) (at (c .before .before .before .before .before .before)) e (l .before .before .before .before .pre .3)),
       (omega arith, omega (arith, loops-fit (here l))),
     )
 
