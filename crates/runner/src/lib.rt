@@ -30,9 +30,9 @@ fn run_typed(b: &[u8], z: Sizes, s: &mut [i32], fuel: u32) -> Ran
     ensures { λ r. ⌜ Runs (now (b .entry)) (now (s .entry)) fuel (ranOf r) (now (s .exit)) ⌝ }
 {
     let root = (z.nodes - 1) as u32;
-    let first = machine::start(b, root);
+    let first = machine::start(b, z, root);
     let places = machine::no_places();
-    let end = machine::go_on(b, places, first, s, fuel as u64);
+    let end = machine::go_on(b, z, places, first, s, fuel as u64);
     let ending = end.ending;
     let m = end.machine;
     Ran::Ended(End {

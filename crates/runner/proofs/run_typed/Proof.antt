@@ -19,7 +19,7 @@ run-typed-spec =
     (λ c κs. search needs)
     (λ c κs. let (ok, z, l) = c .before .before .before .before .before .pre in
     let h = is-headed (ok .opens) (ok .holds) in
-    (omega arith, omega arith, (_, first-moment ok l (omega arith) (c .before .no-places .ensures) (c .before .before .start .ensures))))
+    (omega arith, omega arith, (_, first-moment ok l (omega arith) (c .before .no-places .ensures) (c .before .before .start .ensures)), z))
     (λ c. search needs)
     (λ c. let s = c .before .before .before .before .before .before .before .before in let (ok, z, l) = s .pre in
     let h = is-headed (ok .opens) (ok .holds) in
