@@ -207,9 +207,12 @@ pub fn types(b: &[u8], z: Sizes) -> Typed
     requires { ⌜ IsOpen (now b) z ⌝ }
     ensures { λ r. ⌜ TypedSays (now (b .entry)) r ⌝ }
 {
-    if z.nodes <= 256 {
-        let mut small = [0u8; 256];
-        check_nodes(b, z, 255, &mut small)
+    if z.nodes <= 64 {
+        let mut small = [0u8; 64];
+        check_nodes(b, z, 63, &mut small)
+    } else if z.nodes <= 512 {
+        let mut middle = [0u8; 512];
+        check_nodes(b, z, 511, &mut middle)
     } else {
         let mut large = [0u8; 4096];
         check_nodes(b, z, 4095, &mut large)

@@ -214,9 +214,12 @@ fn layout(b: &[u8], n: usize) -> Laid
     requires { ⌜ Headed (now b) × (n ≡ count (now b)) ⌝ }
     ensures { λ r. ⌜ LaidSays (now (b .entry)) r ⌝ }
 {
-    if n <= 256 {
-        let mut words = [0u32; 256];
-        lay(b, n, 255, &mut words)
+    if n <= 64 {
+        let mut words = [0u32; 64];
+        lay(b, n, 63, &mut words)
+    } else if n <= 512 {
+        let mut words = [0u32; 512];
+        lay(b, n, 511, &mut words)
     } else {
         let mut words = [0u32; 4096];
         lay(b, n, 4095, &mut words)

@@ -1,7 +1,7 @@
 -- `opener::layout` meets its contract: each table has room for the nodes, and its mask covers them.
 use borrow.Author.Needs.{needs}
 use native.Mathlib.Omega.{arith}
-use Rattle.routine.proofs.Masks.{covers-small, covers-large}
+use Rattle.routine.proofs.Masks.{covers-small, covers-middle, covers-large}
 use Rattle.opener.proofs.layout.Statement.{statement}
 use Rattle.opener.proofs.layout.Tie as tie
 
@@ -12,6 +12,9 @@ layout-spec =
     (λ c. search needs)
     (λ c κs. let p = c .before .before .before .pre in (p .0, p .1, omega arith, omega arith, covers-small (omega arith)))
     (λ c. search needs)
-    (λ c κs. let p = c .before .before .before .pre in (p .0, p .1, omega arith, omega arith, covers-large (omega arith)))
+    (λ c κs. let p = c .before .before .before .before .pre in (p .0, p .1, omega arith, omega arith, covers-middle (omega arith)))
+    (λ c. search needs)
+    (λ c κs. let p = c .before .before .before .before .pre in (p .0, p .1, omega arith, omega arith, covers-large (omega arith)))
+    (λ c. search needs)
     (λ c. search needs)
     (λ c. search needs))
