@@ -4,6 +4,8 @@ mod plain;
 #[path = "../random.rs"]
 mod random;
 mod rows;
+#[path = "../state.rs"]
+mod state;
 
 use plain::{Ended, Machine, Outcome, Value};
 use random::Random;

@@ -1,45 +1,13 @@
 //! The same run in plain safe Rust: one machine over the stored bytes of a routine that was checked before.
 
-#[derive(Clone, Copy, PartialEq, Eq, Debug)]
-pub enum Value {
-    Int(i32),
-    Bool(bool),
-    Skip,
-}
-
-#[derive(Clone, Copy, PartialEq, Eq, Debug)]
-pub enum Outcome {
-    Value(Value),
-    Overflow(u16),
-    Fuel,
-}
+use crate::state::{Frame, Work};
+pub use crate::state::{Outcome, Value};
 
 #[derive(PartialEq, Eq, Debug)]
 pub struct Ended {
     pub outcome: Outcome,
     pub steps: u32,
     pub loops: u32,
-}
-
-/// What the machine looks at: a node, or the value that an expression came to.
-#[derive(Clone, Copy)]
-enum Work {
-    Node(u16),
-    Value(Value),
-}
-
-/// An expression around the work, by its node, and what is already known of it.
-#[derive(Clone, Copy)]
-enum Frame {
-    PlusLeft(u16),
-    PlusRight(u16, i32),
-    GeqLeft(u16),
-    GeqRight(i32),
-    If(u16),
-    Assign(u8),
-    Seq(u16),
-    /// The test of the `if` that a `while` became.
-    While(u16),
 }
 
 pub struct Machine<'a> {

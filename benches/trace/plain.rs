@@ -1,5 +1,9 @@
 //! The same as `trace` in plain safe Rust: prints every moment of a run. It takes its input to be a good one.
 
+#[path = "../state.rs"]
+mod state;
+
+use state::{Frame, Outcome, Value, Work};
 use std::io::{self, Read, Write};
 
 /// A longer text is printed as `#` and its length.
@@ -7,41 +11,6 @@ const SHOWN: usize = 8192;
 
 /// The output is written in pieces of about this size.
 const PIECE: usize = 1 << 16;
-
-#[derive(Clone, Copy)]
-enum Value {
-    Int(i32),
-    Bool(bool),
-    Skip,
-}
-
-enum Outcome {
-    Value(Value),
-    Overflow(u16),
-    Fuel,
-}
-
-/// What the machine looks at: a node, or the value that an expression came to.
-#[derive(Clone, Copy)]
-enum Work {
-    Node(u16),
-    Value(Value),
-}
-
-/// An expression around the work, by its node, and what is already known of it.
-#[derive(Clone, Copy)]
-enum Frame {
-    PlusLeft(u16),
-    PlusRight(u16, i32),
-    GeqLeft(u16),
-    GeqRight(i32),
-    If(u16),
-    Assign(u8),
-    /// The node after the `;`.
-    Seq(u16),
-    /// The test of the `if` that a `while` became.
-    While(u16),
-}
 
 /// The nodes of a routine, and how long the text of each is.
 struct Routine<'a> {
