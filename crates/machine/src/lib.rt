@@ -122,12 +122,6 @@ const IF_FALSE: u64 = 7;
 
 const WHILE: u64 = 8;
 
-fn long(x: u32) -> usize
-    ensures { λ r. ⌜ (r ≡ x) × (r < 4294967296) ⌝ }
-{
-    x as usize
-}
-
 fn short(x: u8) -> u32
     ensures { λ r. ⌜ r ≡ x ⌝ }
 {
@@ -232,7 +226,7 @@ pub fn write(a: Act, s: &mut [i32])
         Act::Push => {}
         Act::Rest => {}
         Act::Write(l, n) => {
-            s[long(l)] = n;
+            s[routine::long(l)] = n;
         }
         Act::Over(_) => {}
     }

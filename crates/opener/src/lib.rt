@@ -41,12 +41,6 @@ fn wide(x: u16) -> usize
     x as usize
 }
 
-fn long(x: u32) -> usize
-    ensures { λ r. ⌜ (r ≡ x) × (r < 4294967296) ⌝ }
-{
-    x as usize
-}
-
 // Refusals 1 to 6.
 fn read_head(b: &[u8]) -> Head
     ensures { λ r. ⌜ HeadSays (now (b .entry)) r ⌝ }
@@ -103,7 +97,7 @@ fn entry(words: &[u32], mask: usize, j: u16) -> usize
     requires { ⌜ mask < length (now words) ⌝ }
     ensures { λ r. ⌜ (r ≡ under mask (now (words .entry)) j) × (r < 4294967296) ⌝ }
 {
-    long(words[wide(j) & mask])
+    routine::long(words[wide(j) & mask])
 }
 
 // How many children a form has, as `routine::digit_of` reads it, and the two forms that are not told by that: an integer's bytes 4-7 are a
@@ -198,7 +192,7 @@ fn lay(b: &[u8], n: usize, mask: usize, words: &mut [u32]) -> Laid
         words[i] = k as u32;
         i += 1;
     }
-    let root = long(words[n - 1]);
+    let root = routine::long(words[n - 1]);
     if root % DEPTH != 0 {
         return Laid::Forest;
     }

@@ -35,20 +35,6 @@ kindOf Unknown = 10
 unfoldable pub digitOf : ℕ → Form → ℕ
 digitOf table f = table / 2 ^ (4 * (kindOf f % 16)) % 16
 
--- how many children a form has
-abbrev pub arityOf : Form → ℕ
-arityOf Integer = 0
-arityOf Boolean = 0
-arityOf Plus = 2
-arityOf Geq = 2
-arityOf If = 3
-arityOf Assign = 1
-arityOf Deref = 0
-arityOf Skip = 0
-arityOf Seq = 2
-arityOf While = 2
-arityOf Unknown = 0
-
 abbrev pub integerOf : List ℕ → ℕ → ℤ
 integerOf b i = signed (child2 b i * 65536 + child3 b i)
 

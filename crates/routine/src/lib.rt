@@ -5,7 +5,7 @@ ghost use lib.ListN.{length};
 ghost use Rattle.stored.specs.Bytes.{pair, signed};
 ghost use Rattle.stored.specs.Layout.{start, kind, arg, child1, child2, child3};
 ghost use Rattle.stored.specs.Refusals.{number};
-ghost use Rattle.routine.specs.Forms.{formOf, kindOf, digitOf, arityOf, nodeOf, integerOf};
+ghost use Rattle.routine.specs.Forms.{formOf, kindOf, digitOf, nodeOf, integerOf};
 ghost use Rattle.routine.specs.Says.{refusalOf, returned};
 ghost use Rattle.routine.specs.Open.{IsOpen};
 ghost use Rattle.routine.specs.View.{viewOf};
@@ -115,6 +115,12 @@ pub fn wide(x: u8) -> usize
     x as usize
 }
 
+pub fn long(x: u32) -> usize
+    ensures { λ r. ⌜ (r ≡ x) × (r < 4294967296) ⌝ }
+{
+    x as usize
+}
+
 // Bytes at and at + 1.
 pub fn pair_at(b: &[u8], at: usize) -> u16
     requires { ⌜ at + 1 < length (now b) ⌝ }
@@ -166,13 +172,6 @@ pub fn digit_of(table: u64, f: Form) -> u64
     ensures { λ r. ⌜ (r ≡ digitOf table f) × (r < 16) ⌝ }
 {
     (table >> (4 * (kind_of(f) % 16))) % 16
-}
-
-// How many children a form has.
-pub fn arity_of(f: Form) -> u64
-    ensures { λ r. ⌜ r ≡ arityOf f ⌝ }
-{
-    digit_of(0x02200132200, f)
 }
 
 // A number of 32 bits, read as two's complement.
