@@ -1,7 +1,7 @@
--- The length of a node's text: that of its own pieces and of its children's texts. It is at most 40 bytes for each node of the tree.
-use Prim.Native.Nat.{ℕ, zero, suc, _+_, _*_, _/_, _≤_, _<_}
+-- The length of a node's text is at most 40 bytes for each node of the tree; a table holds it.
+use Prim.Native.Nat.{ℕ, _+_, _*_, _≤_, _<_}
 use native.Mathlib.Omega.{arith}
-use mathlib.Core.Path.{_≡_, ap, _∙_}
+use mathlib.Core.Path.{_≡_, _∙_}
 use mathlib.Core.Bool.{Bool, true, false}
 use mathlib.Core.List.{List}
 use lib.IntN.{ℤ}
@@ -13,55 +13,19 @@ use Rattle.l1.specs.Measures.{size}
 use Rattle.l1.specs.Text.{decimal, number, truth, text}
 use Rattle.l1.proofs.Range.{in-range-mag}
 use Rattle.stored.specs.Bytes.{byte, pair}
-use Rattle.stored.specs.Layout.{start, arg, child1, child2, child3, TreeAt, at-int, at-bool, at-op, at-if, at-assign, at-deref, at-skip, at-seq, at-while}
+use Rattle.stored.specs.Layout.{start, arg, TreeAt, at-int, at-bool, at-op, at-if, at-assign, at-deref, at-skip, at-seq, at-while}
 use Rattle.stored.specs.Reader.{treeAt}
 use Rattle.stored.specs.Refusals.{count}
 use Rattle.stored.proofs.Signed.{signed-in-range}
 use Rattle.stored.proofs.Subtrees.{size-fits}
-use Rattle.routine.specs.Forms.{arityOf, integerOf}
+use Rattle.routine.specs.Forms.{integerOf}
 use Rattle.routine.specs.Open.{Runnable}
-use Rattle.routine.specs.declared.Form.{Form}
-use Rattle.routine.specs.declared.Form.the-variants.{Integer, Boolean, Plus, Geq, If, Assign, Deref, Skip, Seq, While, Unknown}
 use Rattle.routine.proofs.Standing.{is-headed, nodes-stand}
-use Rattle.writer.specs.Pieces.{before, between, behind, after, formAt, textAt}
+use Rattle.writer.specs.Texts.{textAt}
 use Rattle.writer.specs.Lengths.{LengthsOf}
 use Rattle.writer.proofs.NumberLengths.{few-digits, few-bytes}
-use Rattle.writer.proofs.TextPieces.{whole, text-pieces}
 
--- what `own_length` returns: the length of a form's own pieces; the third child is followed by a `)`
-abbrev pub own : Form → ℕ → ℤ → ℕ
-own F l z = length (before F l z) + length (between F) + length (behind F) + arityOf F / 3
-
-abbrev pub ownAt : List ℕ → ℕ → ℕ
-ownAt b i = own (formAt b i) (arg b i) (integerOf b i)
-
-pub own-at : (b : List ℕ) (i : ℕ) {F : Form} {l : ℕ} {z : ℤ} → F ≡ formAt b i → l ≡ arg b i → z ≡ integerOf b i → own F l z ≡ ownAt b i
-own-at b i p q r = rw (p, q, r)
-
--- the children's lengths together, by how many they are
-abbrev pub joined : ℕ → ℕ → ℕ → ℕ → ℕ
-joined zero x y z = 0
-joined (suc zero) x y z = x
-joined (suc (suc zero)) x y z = x + y
-joined (suc (suc (suc n))) x y z = x + y + z
-
-module _ (l : ℕ) (z : ℤ) (t u v : List ℕ) where
-  pieces-length : (F : Form)
-      → length (whole (arityOf F) (before F l z) t (after (arityOf F) (between F) u (behind F) v))
-      ≡ own F l z + joined (arityOf F) (length t) (length u) (length v)
-  pieces-length Integer = omega arith
-  pieces-length Boolean = omega arith
-  pieces-length Plus = simp length-append (omega arith)
-  pieces-length Geq = simp length-append (omega arith)
-  pieces-length If = simp length-append (omega arith)
-  pieces-length Assign = simp length-append (omega arith)
-  pieces-length Deref = omega arith
-  pieces-length Skip = omega arith
-  pieces-length Seq = simp length-append (omega arith)
-  pieces-length While = simp length-append (omega arith)
-  pieces-length Unknown = omega arith
-
-truth-length : (t : Bool) → length (truth t) ≤ 5
+pub truth-length : (t : Bool) → length (truth t) ≤ 5
 truth-length true = omega arith
 truth-length false = omega arith
 
@@ -91,11 +55,6 @@ module _ (b : List ℕ) (small : (k : ℕ) → byte b k < 256) where
   text-length (at-while n p q t₁ t₂) = simp length-append (omega (arith, text-length t₁, text-length t₂))
 
 module _ {b : List ℕ} (ok : Runnable b) {i : ℕ} (h : i < count b) where
-  -- k is how many children the node has
-  pub length-by : {o : ℕ} → o ≡ ownAt b i → (k : ℕ) → k ≡ arityOf (formAt b i)
-      → length (textAt b i) ≡ o + joined k (length (textAt b (child1 b i))) (length (textAt b (child2 b i))) (length (textAt b (child3 b i)))
-  length-by p k q = rw (p, q) (ap length (text-pieces ok i h) ∙ pieces-length _ _ _ _ _ (formAt b i))
-
   module _ (small : (k : ℕ) → byte b k < 256) where
     pub length-fits : length (textAt b i) ≤ 40 * size (treeAt b i)
     length-fits = text-length b small (nodes-stand (ok .opens) (ok .holds) i h)

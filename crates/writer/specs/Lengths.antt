@@ -5,7 +5,7 @@ use mathlib.Core.List.{List}
 use lib.ListN.{length, getD}
 use Rattle.l1.specs.Measures.{size}
 use Rattle.stored.specs.Reader.{treeAt}
-use Rattle.writer.specs.Pieces.{textAt}
+use Rattle.writer.specs.Texts.{textAt}
 
 abbrev pub LengthsOf : List ℕ → ℕ → List ℕ → Type 0
 LengthsOf b n table = (j : ℕ) → j < n → (getD table j 0 ≡ length (textAt b j)) × (length (textAt b j) ≤ 40 * size (treeAt b j))

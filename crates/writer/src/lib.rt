@@ -7,14 +7,14 @@ ghost use mathlib.Core.List.{[], _∷_, _++_};
 ghost use Prim.Native.Nat.{_+_, _*_, _/_, _%_, _≤_, _<_};
 ghost use lib.ListN.{length, getD};
 ghost use Rattle.l1.specs.Text.{bytes, decimal, number, truth, location};
-ghost use Rattle.stored.specs.Layout.{start, child1, child2, child3};
+ghost use Rattle.stored.specs.Layout.{child1, child2};
 ghost use Rattle.stored.specs.Refusals.{count};
-ghost use Rattle.routine.specs.Forms.{arityOf, nodeOf, integerOf};
-ghost use Rattle.routine.specs.Open.{Runnable};
+ghost use Rattle.routine.specs.Open.{Runnable, SizesOf};
 ghost use Rattle.writer.specs.Put.{Put};
-ghost use Rattle.writer.specs.Pieces.{before, between, behind, formAt, textAt, afterAt};
+ghost use Rattle.writer.specs.Texts.{formAt, textAt};
 ghost use Rattle.writer.specs.Lengths.{LengthsOf};
 use routine::Form;
+use routine::Sizes;
 
 pub fn put_byte(x: u8, buf: &mut [u8], at: usize) -> usize
     requires { ⌜ at < length (now buf) ⌝ }
@@ -148,114 +148,79 @@ fn put_deref(l: u64, buf: &mut [u8], at: usize) -> usize
     put_location(l, buf, p)
 }
 
-fn put_before(f: Form, l: u8, z: i32, buf: &mut [u8], at: usize) -> usize
-    requires { ⌜ at + length (before f l z) ≤ length (now buf) ⌝ }
-    ensures { λ r. ⌜ Put (now (buf .entry)) at (before f l z) (now (buf .exit)) r ⌝ }
+// The bracket that opens a text, and node j.
+fn put_opened(b: &[u8], z: Sizes, j: u32, buf: &mut [u8], at: usize) -> usize
+    requires { ⌜ Runnable (now b) × (j < count (now b)) × (at + length (bytes "(" ++ textAt (now b) j) ≤ length (now buf)) × SizesOf (now b) z ⌝ }
+    ensures { λ r. ⌜ Put (now (buf .entry)) at (bytes "(" ++ textAt (now (b .entry)) j) (now (buf .exit)) r ⌝ }
 {
-    match f {
-        Form::Integer => put_number(z, buf, at),
-        Form::Boolean => put_truth(l == 1, buf, at),
-        Form::Plus => put_bytes(b"(", buf, at),
-        Form::Geq => put_bytes(b"(", buf, at),
-        Form::If => put_bytes(b"(if ", buf, at),
-        Form::Assign => put_assigned(l as u64, buf, at),
-        Form::Deref => put_deref(l as u64, buf, at),
-        Form::Skip => put_bytes(b"skip", buf, at),
-        Form::Seq => put_bytes(b"(", buf, at),
-        Form::While => put_bytes(b"(while ", buf, at),
-        Form::Unknown => put_bytes(b"skip", buf, at),
-    }
+    let p = put_byte(40, buf, at);
+    put_tree(b, z, j, buf, p)
 }
 
-fn put_between(f: Form, buf: &mut [u8], at: usize) -> usize
-    requires { ⌜ at + length (between f) ≤ length (now buf) ⌝ }
-    ensures { λ r. ⌜ Put (now (buf .entry)) at (between f) (now (buf .exit)) r ⌝ }
+// Node j, and the bracket that closes a text.
+fn put_closed(b: &[u8], z: Sizes, j: u32, buf: &mut [u8], at: usize) -> usize
+    requires { ⌜ Runnable (now b) × (j < count (now b)) × (at + length (textAt (now b) j ++ bytes ")") ≤ length (now buf)) × SizesOf (now b) z ⌝ }
+    ensures { λ r. ⌜ Put (now (buf .entry)) at (textAt (now (b .entry)) j ++ bytes ")") (now (buf .exit)) r ⌝ }
 {
-    match f {
-        Form::Integer => at,
-        Form::Boolean => at,
-        Form::Plus => put_bytes(b" + ", buf, at),
-        Form::Geq => put_bytes(b" >= ", buf, at),
-        Form::If => put_bytes(b" then ", buf, at),
-        Form::Assign => put_bytes(b")", buf, at),
-        Form::Deref => at,
-        Form::Skip => at,
-        Form::Seq => put_bytes(b" ; ", buf, at),
-        Form::While => put_bytes(b" do ", buf, at),
-        Form::Unknown => at,
-    }
+    let p = put_tree(b, z, j, buf, at);
+    put_byte(41, buf, p)
 }
 
-fn put_behind(f: Form, buf: &mut [u8], at: usize) -> usize
-    requires { ⌜ at + length (behind f) ≤ length (now buf) ⌝ }
-    ensures { λ r. ⌜ Put (now (buf .entry)) at (behind f) (now (buf .exit)) r ⌝ }
-{
-    match f {
-        Form::Integer => at,
-        Form::Boolean => at,
-        Form::Plus => put_bytes(b")", buf, at),
-        Form::Geq => put_bytes(b")", buf, at),
-        Form::If => put_bytes(b" else ", buf, at),
-        Form::Assign => at,
-        Form::Deref => at,
-        Form::Skip => at,
-        Form::Seq => put_bytes(b")", buf, at),
-        Form::While => put_bytes(b" done)", buf, at),
-        Form::Unknown => at,
-    }
-}
-
-// The text of node i.
-pub fn put_tree(b: &[u8], i: u32, buf: &mut [u8], at: usize) -> usize
-    requires { ⌜ Runnable (now b) × (i < count (now b)) × (at + length (textAt (now b) i) ≤ length (now buf)) ⌝ }
+fn put_if(b: &[u8], z: Sizes, i: u32, buf: &mut [u8], at: usize) -> usize
+    requires { ⌜ Runnable (now b) × (i < count (now b)) × (at + length (textAt (now b) i) ≤ length (now buf)) × (formAt (now b) i ≡ Form.If) × SizesOf (now b) z ⌝ }
     ensures { λ r. ⌜ Put (now (buf .entry)) at (textAt (now (b .entry)) i) (now (buf .exit)) r ⌝ }
 {
-    let f = routine::form_at(b, i);
-    let z = routine::integer_at(b, i);
-    let p = put_before(f, routine::arg_at(b, i), z, buf, at);
-    if routine::arity_of(f) == 0 {
-        return p;
-    }
-    let q = put_tree(b, routine::first_at(b, i), buf, p);
-    put_after(b, i, buf, q)
+    let p = put_bytes(b"(if ", buf, at);
+    let q = put_tree(b, z, routine::first_at(b, z, i), buf, p);
+    let r = put_bytes(b" then ", buf, q);
+    let s = put_tree(b, z, routine::second_at(b, z, i), buf, r);
+    let t = put_bytes(b" else ", buf, s);
+    put_closed(b, z, routine::third_at(b, z, i), buf, t)
 }
 
-// What follows the first child of node i.
-fn put_after(b: &[u8], i: u32, buf: &mut [u8], at: usize) -> usize
-    requires { ⌜ Runnable (now b) × (i < count (now b)) × (1 ≤ arityOf (formAt (now b) i)) × (at + length (afterAt (now b) i) ≤ length (now buf)) ⌝ }
-    ensures { λ r. ⌜ Put (now (buf .entry)) at (afterAt (now (b .entry)) i) (now (buf .exit)) r ⌝ }
+fn put_while(b: &[u8], z: Sizes, i: u32, buf: &mut [u8], at: usize) -> usize
+    requires { ⌜ Runnable (now b) × (i < count (now b)) × (at + length (textAt (now b) i) ≤ length (now buf)) × (formAt (now b) i ≡ Form.While) × SizesOf (now b) z ⌝ }
+    ensures { λ r. ⌜ Put (now (buf .entry)) at (textAt (now (b .entry)) i) (now (buf .exit)) r ⌝ }
 {
-    let f = routine::form_at(b, i);
-    let k = routine::arity_of(f);
-    let p = put_between(f, buf, at);
-    if k < 2 {
-        return p;
-    }
-    let q = put_tree(b, routine::second_at(b, i), buf, p);
-    let r = put_behind(f, buf, q);
-    if k == 2 {
-        return r;
-    }
-    let s = put_tree(b, routine::third_at(b, i), buf, r);
-    put_byte(41, buf, s)
+    let p = put_bytes(b"(while ", buf, at);
+    let q = put_tree(b, z, routine::first_at(b, z, i), buf, p);
+    let r = put_bytes(b" do ", buf, q);
+    let s = put_tree(b, z, routine::second_at(b, z, i), buf, r);
+    put_bytes(b" done)", buf, s)
 }
 
-// The length of a form's own pieces.
-fn own_length(f: Form, l: u8, z: i32) -> usize
-    ensures { λ r. ⌜ (r ≡ length (before f l z) + length (between f) + length (behind f) + arityOf f / 3) × (r ≤ 40) ⌝ }
+// The text of node i. The pieces stand as constants in the arms: handed on as a slice each would be a loop of bytes.
+pub fn put_tree(b: &[u8], z: Sizes, i: u32, buf: &mut [u8], at: usize) -> usize
+    requires { ⌜ Runnable (now b) × (i < count (now b)) × (at + length (textAt (now b) i) ≤ length (now buf)) × SizesOf (now b) z ⌝ }
+    ensures { λ r. ⌜ Put (now (buf .entry)) at (textAt (now (b .entry)) i) (now (buf .exit)) r ⌝ }
 {
-    match f {
-        Form::Integer => number_width(z),
-        Form::Boolean => truth_width(l == 1),
-        Form::Plus => 5,
-        Form::Geq => 6,
-        Form::If => 17,
-        Form::Assign => 7 + width(l as u64),
-        Form::Deref => 2 + width(l as u64),
-        Form::Skip => 4,
-        Form::Seq => 5,
-        Form::While => 17,
-        Form::Unknown => 4,
+    match routine::form_at(b, z, i) {
+        Form::Integer => put_number(routine::integer_at(b, z, i), buf, at),
+        Form::Boolean => put_truth(routine::arg_at(b, z, i) == 1, buf, at),
+        Form::Plus => {
+            let p = put_opened(b, z, routine::first_at(b, z, i), buf, at);
+            let q = put_bytes(b" + ", buf, p);
+            put_closed(b, z, routine::second_at(b, z, i), buf, q)
+        }
+        Form::Geq => {
+            let p = put_opened(b, z, routine::first_at(b, z, i), buf, at);
+            let q = put_bytes(b" >= ", buf, p);
+            put_closed(b, z, routine::second_at(b, z, i), buf, q)
+        }
+        Form::If => put_if(b, z, i, buf, at),
+        Form::Assign => {
+            let p = put_assigned(routine::arg_at(b, z, i) as u64, buf, at);
+            put_closed(b, z, routine::first_at(b, z, i), buf, p)
+        }
+        Form::Deref => put_deref(routine::arg_at(b, z, i) as u64, buf, at),
+        Form::Skip => put_bytes(b"skip", buf, at),
+        Form::Seq => {
+            let p = put_opened(b, z, routine::first_at(b, z, i), buf, at);
+            let q = put_bytes(b" ; ", buf, p);
+            put_closed(b, z, routine::second_at(b, z, i), buf, q)
+        }
+        Form::While => put_while(b, z, i, buf, at),
+        Form::Unknown => at,
     }
 }
 
@@ -267,37 +232,50 @@ pub fn length_in(lengths: &[u32], j: u32) -> usize
     lengths[j as usize] as usize
 }
 
+// The lengths of the first two children's texts, together.
+fn two_lengths(b: &[u8], z: Sizes, i: u32, lengths: &[u32]) -> usize
+    requires { ⌜ Runnable (now b) × (i < count (now b)) × (count (now b) ≤ length (now lengths)) × LengthsOf (now b) i (now lengths) × (child1 (now b) i < i) × (child2 (now b) i < i) × SizesOf (now b) z ⌝ }
+    ensures { λ r. ⌜ (r ≡ length (textAt (now (b .entry)) (child1 (now (b .entry)) i)) + length (textAt (now (b .entry)) (child2 (now (b .entry)) i))) × (r < 8589934592) ⌝ }
+{
+    let first = length_in(lengths, routine::first_at(b, z, i));
+    first + length_in(lengths, routine::second_at(b, z, i))
+}
+
 // The length of node i's text; the table holds those of the nodes before it.
-fn node_length(b: &[u8], i: u32, lengths: &[u32]) -> usize
-    requires { ⌜ Runnable (now b) × (i < count (now b)) × (count (now b) ≤ length (now lengths)) × LengthsOf (now b) i (now lengths) ⌝ }
+fn node_length(b: &[u8], z: Sizes, i: u32, lengths: &[u32]) -> usize
+    requires { ⌜ Runnable (now b) × (i < count (now b)) × (count (now b) ≤ length (now lengths)) × LengthsOf (now b) i (now lengths) × SizesOf (now b) z ⌝ }
     ensures { λ r. ⌜ (r ≡ length (textAt (now (b .entry)) i)) × (r < 4294967296) ⌝ }
 {
-    let f = routine::form_at(b, i);
-    let k = routine::arity_of(f);
-    let z = routine::integer_at(b, i);
-    let own = own_length(f, routine::arg_at(b, i), z);
-    if k == 0 {
-        return own;
+    match routine::form_at(b, z, i) {
+        Form::Integer => number_width(routine::integer_at(b, z, i)),
+        Form::Boolean => truth_width(routine::arg_at(b, z, i) == 1),
+        Form::Plus => 5 + two_lengths(b, z, i, lengths),
+        Form::Geq => 6 + two_lengths(b, z, i, lengths),
+        Form::If => {
+            let t = two_lengths(b, z, i, lengths);
+            17 + t + length_in(lengths, routine::third_at(b, z, i))
+        }
+        Form::Assign => {
+            let w = width(routine::arg_at(b, z, i) as u64);
+            7 + w + length_in(lengths, routine::first_at(b, z, i))
+        }
+        Form::Deref => 2 + width(routine::arg_at(b, z, i) as u64),
+        Form::Skip => 4,
+        Form::Seq => 5 + two_lengths(b, z, i, lengths),
+        Form::While => 17 + two_lengths(b, z, i, lengths),
+        Form::Unknown => 0,
     }
-    let first = length_in(lengths, routine::first_at(b, i));
-    if k == 1 {
-        return own + first;
-    }
-    let second = length_in(lengths, routine::second_at(b, i));
-    if k == 2 {
-        return own + first + second;
-    }
-    own + first + second + length_in(lengths, routine::third_at(b, i))
 }
 
 // Fills the table with the lengths of all texts, in one pass.
-pub fn measure(b: &[u8], n: usize, lengths: &mut [u32])
-    requires { ⌜ Runnable (now b) × (n ≡ count (now b)) × (n ≤ length (now lengths)) ⌝ }
+pub fn measure(b: &[u8], z: Sizes, lengths: &mut [u32])
+    requires { ⌜ Runnable (now b) × (count (now b) ≤ length (now lengths)) × SizesOf (now b) z ⌝ }
     ensures { λ r. ⌜ LengthsOf (now (b .entry)) (count (now (b .entry))) (now (lengths .exit)) ⌝ }
 {
+    let n = z.nodes;
     let mut i = 0;
     while i < n {
-        lengths[i] = node_length(b, i as u32, lengths) as u32;
+        lengths[i] = node_length(b, z, i as u32, lengths) as u32;
         i += 1;
     }
 }

@@ -11,15 +11,15 @@ use Rattle.writer.proofs.measure.Statement.{statement}
 use Rattle.writer.proofs.measure.Tie as tie
 
 abbrev Inv-loop : tie.InvT-loop
-Inv-loop b n lengths₀ i₀ lengths i = (i ≤ n) × (length lengths ≡ length lengths₀) × LengthsOf b i lengths
+Inv-loop b z lengths₀ n i₀ lengths i = (i ≤ n) × (length lengths ≡ length lengths₀) × LengthsOf b i lengths
 
 abbrev μ-loop : tie.MeasureT-loop
-μ-loop b n lengths₀ i₀ lengths i = n - i
+μ-loop b z lengths₀ n i₀ lengths i = n - i
 
 measured-before : tie.Need-node-length-requires Inv-loop μ-loop
 measured-before c κs =
     let h = c .before .before in let p = h .before .before .before .pre in
-    (p .0, omega (arith, p .1), omega (arith, p .1, p .2), h .loop .inv .2)
+    (p .0, omega (arith, p .2), omega (arith, p .1), h .loop .inv .2, p .2)
 
 again : tie.Need-loop-again Inv-loop μ-loop
 again c =
@@ -27,7 +27,7 @@ again c =
       omega arith,
       simp length-set (omega arith),
       lengths-more _ (h .loop .lengths) (h .loop .inv .2) (omega arith) (c .node-length .ensures .0)
-          (length-fits (p .0) (omega (arith, p .1)) (λ k. omega (arith, s .shared-slice-known .given k))),
+          (length-fits (p .0) (omega (arith, p .2)) (λ k. omega (arith, s .shared-slice-known .given k))),
     )
 
 pub measure-spec : {M : Type 1} → statement M
@@ -37,7 +37,7 @@ measure-spec =
     Inv-loop
     μ-loop
     (λ c. (omega arith, refl, λ j l. absurd (omega arith)))
-    (λ c. let o = c .before .before .before .before .pre .0 in omega (arith, is-headed (o .opens) (o .holds)))
+    (λ c. let p = c .before .before .before .before .pre in omega (arith, p .2, is-headed (p .0 .opens) (p .0 .holds)))
     measured-before
     (λ c. omega (arith, c .node-length .ensures .1))
     (λ c. omega arith)
@@ -46,4 +46,4 @@ measure-spec =
     (λ c. omega arith)
     again
     (λ c. omega arith)
-    (λ c j l. c .before .loop .inv .2 j (omega (arith, c .before .before .before .before .pre .1, c .loop-test .left))))
+    (λ c j l. c .before .loop .inv .2 j (omega (arith, c .before .before .before .before .pre .2, c .loop-test .left))))
