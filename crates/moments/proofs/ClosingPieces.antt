@@ -6,7 +6,7 @@ use Rattle.l1.specs.Text.{bytes, text}
 use Rattle.stored.specs.Layout.{child2, child3}
 use Rattle.machine.specs.State.{contextOf}
 use Rattle.machine.specs.declared.Place.the-variants.{Test, Again}
-use Rattle.writer.specs.Pieces.{textAt}
+use Rattle.writer.specs.Texts.{textAt}
 use Rattle.moments.specs.Around.{closing}
 
 regroup-if : (a t e u z : List ℕ) → a ++ t ++ e ++ u ++ z ≡ a ++ t ++ (e ++ u ++ z)

@@ -8,7 +8,7 @@ use Rattle.stored.specs.Refusals.{count}
 use Rattle.stored.proofs.Subtrees.{size-fits}
 use Rattle.routine.specs.Open.{Runnable}
 use Rattle.routine.proofs.Standing.{is-headed, nodes-stand}
-use Rattle.writer.specs.Pieces.{textAt}
+use Rattle.writer.specs.Texts.{textAt}
 use Rattle.writer.proofs.TextLengths.{held}
 use Rattle.moments.specs.Stand.{Measured}
 

@@ -6,7 +6,7 @@ use mathlib.Core.Path.{_≡_, refl, sym, ap, _∙_}
 use mathlib.Core.List.{List, [], _∷_, _++_, append-assoc, append-nil}
 use lib.ListN.{length, getD, length-append}
 use Rattle.l1.specs.Syntax.{Expr}
-use Rattle.l1.specs.Text.{bytes, text}
+use Rattle.l1.specs.Text.{text}
 use Rattle.machine.specs.Contexts.{Context, in-op1, in-op2, in-if3, in-assign2, in-seq2, fill, plug}
 use Rattle.machine.specs.State.{contextOf, blank, stack}
 use Rattle.machine.specs.declared.Frame.{Frame}

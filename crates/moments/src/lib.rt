@@ -4,20 +4,20 @@
 // at a cost by its places alone, before it is written.
 ghost use mathlib.Core.Path.{_≡_};
 ghost use mathlib.Core.List.{_++_};
-ghost use Prim.Native.Nat.{_+_, _*_, _≤_, _<_};
+ghost use Prim.Native.Nat.{_+_, _≤_, _<_};
 ghost use lib.ListN.{length};
 ghost use Rattle.l1.specs.Text.{bytes, number, text};
-ghost use Rattle.stored.specs.Layout.{child2, child3};
 ghost use Rattle.stored.specs.Refusals.{count};
-ghost use Rattle.routine.specs.Open.{Runnable};
+ghost use Rattle.routine.specs.Open.{Runnable, SizesOf};
 ghost use Rattle.machine.specs.State.{exprOf, Seen, Held, contextOf, stack};
 ghost use Rattle.stepper.specs.Lent.{placeOf, framesOf};
 ghost use Rattle.writer.specs.Put.{Put};
-ghost use Rattle.writer.specs.Pieces.{textAt};
-ghost use Rattle.moments.specs.Around.{opening, closing, closes, openingOf, opensOf};
+ghost use Rattle.writer.specs.Texts.{textAt};
+ghost use Rattle.moments.specs.Around.{closing, closes, openingOf, opensOf};
 ghost use Rattle.moments.specs.Stand.{Stands, Measured, momentText};
 use machine::Place;
 use machine::Work;
+use routine::Sizes;
 
 // An integer to the left of an operator.
 fn put_left(n: i32, sign: &[u8], buf: &mut [u8], at: usize) -> usize
@@ -47,59 +47,59 @@ fn put_opening(f: Place, buf: &mut [u8], at: usize) -> usize
 }
 
 // What is to the right of an operator or a semicolon.
-fn put_right(b: &[u8], sign: &[u8], c: u32, buf: &mut [u8], at: usize) -> usize
-    requires { ⌜ Runnable (now b) × (c < count (now b)) × (at + length (now sign ++ textAt (now b) c ++ bytes ")") ≤ length (now buf)) ⌝ }
+fn put_right(b: &[u8], z: Sizes, sign: &[u8], c: u32, buf: &mut [u8], at: usize) -> usize
+    requires { ⌜ Runnable (now b) × (c < count (now b)) × (at + length (now sign ++ textAt (now b) c ++ bytes ")") ≤ length (now buf)) × SizesOf (now b) z ⌝ }
     ensures { λ r. ⌜ Put (now (buf .entry)) at (now (sign .entry) ++ textAt (now (b .entry)) c ++ bytes ")") (now (buf .exit)) r ⌝ }
 {
     let p = writer::put_bytes(sign, buf, at);
-    let q = writer::put_tree(b, c, buf, p);
+    let q = writer::put_tree(b, z, c, buf, p);
     writer::put_byte(41, buf, q)
 }
 
 // The branches of an if, behind its test.
-fn put_branches(b: &[u8], i: u32, buf: &mut [u8], at: usize) -> usize
-    requires { ⌜ Runnable (now b) × Held (now b) (Place.Test i) × (at + length (closing (contextOf (now b) (Place.Test i))) ≤ length (now buf)) ⌝ }
+fn put_branches(b: &[u8], z: Sizes, i: u32, buf: &mut [u8], at: usize) -> usize
+    requires { ⌜ Runnable (now b) × Held (now b) (Place.Test i) × (at + length (closing (contextOf (now b) (Place.Test i))) ≤ length (now buf)) × SizesOf (now b) z ⌝ }
     ensures { λ r. ⌜ Put (now (buf .entry)) at (closing (contextOf (now (b .entry)) (Place.Test i))) (now (buf .exit)) r ⌝ }
 {
     let p = writer::put_bytes(b" then ", buf, at);
-    let q = writer::put_tree(b, routine::second_at(b, i), buf, p);
-    put_right(b, b" else ", routine::third_at(b, i), buf, q)
+    let q = writer::put_tree(b, z, routine::second_at(b, z, i), buf, p);
+    put_right(b, z, b" else ", routine::third_at(b, z, i), buf, q)
 }
 
 // The branches of the if that a loop became: its body with the loop again, and skip.
-fn put_again(b: &[u8], i: u32, buf: &mut [u8], at: usize) -> usize
-    requires { ⌜ Runnable (now b) × Held (now b) (Place.Again i) × (at + length (closing (contextOf (now b) (Place.Again i))) ≤ length (now buf)) ⌝ }
+fn put_again(b: &[u8], z: Sizes, i: u32, buf: &mut [u8], at: usize) -> usize
+    requires { ⌜ Runnable (now b) × Held (now b) (Place.Again i) × (at + length (closing (contextOf (now b) (Place.Again i))) ≤ length (now buf)) × SizesOf (now b) z ⌝ }
     ensures { λ r. ⌜ Put (now (buf .entry)) at (closing (contextOf (now (b .entry)) (Place.Again i))) (now (buf .exit)) r ⌝ }
 {
     let p = writer::put_bytes(b" then (", buf, at);
-    let q = writer::put_tree(b, routine::second_at(b, i), buf, p);
-    let r = put_right(b, b" ; ", i, buf, q);
+    let q = writer::put_tree(b, z, routine::second_at(b, z, i), buf, p);
+    let r = put_right(b, z, b" ; ", i, buf, q);
     writer::put_bytes(b" else skip)", buf, r)
 }
 
-fn put_closing(b: &[u8], f: Place, buf: &mut [u8], at: usize) -> usize
-    requires { ⌜ Runnable (now b) × Held (now b) f × (at + length (closing (contextOf (now b) f)) ≤ length (now buf)) ⌝ }
+fn put_closing(b: &[u8], z: Sizes, f: Place, buf: &mut [u8], at: usize) -> usize
+    requires { ⌜ Runnable (now b) × Held (now b) f × (at + length (closing (contextOf (now b) f)) ≤ length (now buf)) × SizesOf (now b) z ⌝ }
     ensures { λ r. ⌜ Put (now (buf .entry)) at (closing (contextOf (now (b .entry)) f)) (now (buf .exit)) r ⌝ }
 {
     match f {
         Place::Blank => writer::put_bytes(b" ; skip)", buf, at),
-        Place::PlusLeft(i) => put_right(b, b" + ", routine::second_at(b, i), buf, at),
-        Place::GeqLeft(i) => put_right(b, b" >= ", routine::second_at(b, i), buf, at),
+        Place::PlusLeft(i) => put_right(b, z, b" + ", routine::second_at(b, z, i), buf, at),
+        Place::GeqLeft(i) => put_right(b, z, b" >= ", routine::second_at(b, z, i), buf, at),
         Place::PlusRight(_, _) => writer::put_bytes(b")", buf, at),
         Place::GeqRight(_, _) => writer::put_bytes(b")", buf, at),
-        Place::Test(i) => put_branches(b, i, buf, at),
-        Place::Again(i) => put_again(b, i, buf, at),
+        Place::Test(i) => put_branches(b, z, i, buf, at),
+        Place::Again(i) => put_again(b, z, i, buf, at),
         Place::Store(_) => writer::put_bytes(b")", buf, at),
-        Place::First(j) => put_right(b, b" ; ", j, buf, at),
+        Place::First(j) => put_right(b, z, b" ; ", j, buf, at),
     }
 }
 
-fn put_work(b: &[u8], x: Work, buf: &mut [u8], at: usize) -> usize
-    requires { ⌜ Runnable (now b) × Seen (now b) x × (at + length (text (exprOf (now b) x)) ≤ length (now buf)) ⌝ }
+fn put_work(b: &[u8], z: Sizes, x: Work, buf: &mut [u8], at: usize) -> usize
+    requires { ⌜ Runnable (now b) × Seen (now b) x × (at + length (text (exprOf (now b) x)) ≤ length (now buf)) × SizesOf (now b) z ⌝ }
     ensures { λ r. ⌜ Put (now (buf .entry)) at (text (exprOf (now (b .entry)) x)) (now (buf .exit)) r ⌝ }
 {
     match x {
-        Work::Node(i) => writer::put_tree(b, i as u32, buf, at),
+        Work::Node(i) => writer::put_tree(b, z, i as u32, buf, at),
         Work::Int(n) => writer::put_number(n, buf, at),
         Work::Bool(t) => writer::put_truth(t, buf, at),
         Work::Skip => writer::put_bytes(b"skip", buf, at),
@@ -131,6 +131,7 @@ fn put_opens(
 // What closes them, the innermost first.
 fn put_closes(
     b: &[u8],
+    z: Sizes,
     tags: &[u8],
     nodes: &[u32],
     integers: &[i32],
@@ -139,7 +140,7 @@ fn put_closes(
     buf: &mut [u8],
     at: usize,
 ) -> usize
-    requires { ⌜ Stands (now b) (framesOf (now tags) (now nodes) (now integers)) h x × (at + length (closes (stack (now b) (framesOf (now tags) (now nodes) (now integers)) h)) ≤ length (now buf)) ⌝ }
+    requires { ⌜ Stands (now b) (framesOf (now tags) (now nodes) (now integers)) h x × (at + length (closes (stack (now b) (framesOf (now tags) (now nodes) (now integers)) h)) ≤ length (now buf)) × SizesOf (now b) z ⌝ }
     ensures { λ r. ⌜ Put (now (buf .entry)) at (closes (stack (now (b .entry)) (framesOf (now (tags .entry)) (now (nodes .entry)) (now (integers .entry))) h)) (now (buf .exit)) r ⌝ }
 {
     let mut p = at;
@@ -147,13 +148,14 @@ fn put_closes(
     while 0 < j {
         j -= 1;
         let f = stepper::place_of(tags[j], nodes[j], integers[j]);
-        p = put_closing(b, f, buf, p);
+        p = put_closing(b, z, f, buf, p);
     }
     p
 }
 
 pub fn put_moment(
     b: &[u8],
+    z: Sizes,
     tags: &[u8],
     nodes: &[u32],
     integers: &[i32],
@@ -162,31 +164,31 @@ pub fn put_moment(
     buf: &mut [u8],
     at: usize,
 ) -> usize
-    requires { ⌜ Stands (now b) (framesOf (now tags) (now nodes) (now integers)) h x × (at + length (momentText (now b) (framesOf (now tags) (now nodes) (now integers)) h x) ≤ length (now buf)) ⌝ }
+    requires { ⌜ Stands (now b) (framesOf (now tags) (now nodes) (now integers)) h x × (at + length (momentText (now b) (framesOf (now tags) (now nodes) (now integers)) h x) ≤ length (now buf)) × SizesOf (now b) z ⌝ }
     ensures { λ r. ⌜ Put (now (buf .entry)) at (momentText (now (b .entry)) (framesOf (now (tags .entry)) (now (nodes .entry)) (now (integers .entry))) h x) (now (buf .exit)) r ⌝ }
 {
     let p = put_opens(tags, nodes, integers, h, buf, at);
-    let q = put_work(b, x, buf, p);
-    put_closes(b, tags, nodes, integers, h, x, buf, q)
+    let q = put_work(b, z, x, buf, p);
+    put_closes(b, z, tags, nodes, integers, h, x, buf, q)
 }
 
 // The length of what opens and closes a place.
-fn place_length(b: &[u8], f: Place, lengths: &[u32]) -> usize
-    requires { ⌜ Runnable (now b) × Held (now b) f × Measured (now b) (now lengths) ⌝ }
+fn place_length(b: &[u8], z: Sizes, f: Place, lengths: &[u32]) -> usize
+    requires { ⌜ Runnable (now b) × Held (now b) f × Measured (now b) (now lengths) × SizesOf (now b) z ⌝ }
     ensures { λ r. ⌜ (r ≡ length (openingOf f) + length (closing (contextOf (now (b .entry)) f))) × (r ≤ 400000) ⌝ }
 {
     match f {
         Place::Blank => 9,
-        Place::PlusLeft(i) => 5 + writer::length_in(lengths, routine::second_at(b, i)),
-        Place::GeqLeft(i) => 6 + writer::length_in(lengths, routine::second_at(b, i)),
+        Place::PlusLeft(i) => 5 + writer::length_in(lengths, routine::second_at(b, z, i)),
+        Place::GeqLeft(i) => 6 + writer::length_in(lengths, routine::second_at(b, z, i)),
         Place::PlusRight(_, n) => 5 + writer::number_width(n),
         Place::GeqRight(_, n) => 6 + writer::number_width(n),
         Place::Test(i) => {
-            let t = writer::length_in(lengths, routine::second_at(b, i));
-            17 + t + writer::length_in(lengths, routine::third_at(b, i))
+            let t = writer::length_in(lengths, routine::second_at(b, z, i));
+            17 + t + writer::length_in(lengths, routine::third_at(b, z, i))
         }
         Place::Again(i) => {
-            let t = writer::length_in(lengths, routine::second_at(b, i));
+            let t = writer::length_in(lengths, routine::second_at(b, z, i));
             26 + t + writer::length_in(lengths, i)
         }
         Place::Store(l) => 7 + writer::width(l as u64),
@@ -195,14 +197,14 @@ fn place_length(b: &[u8], f: Place, lengths: &[u32]) -> usize
 }
 
 // The same from the lent slices. A moment with many loops under way has little else than places of the tag 8, a first part: they are asked for before the others.
-fn lent_length(b: &[u8], tag: u8, i: u32, n: i32, lengths: &[u32]) -> usize
-    requires { ⌜ Runnable (now b) × Held (now b) (placeOf tag i n) × Measured (now b) (now lengths) ⌝ }
+fn lent_length(b: &[u8], z: Sizes, tag: u8, i: u32, n: i32, lengths: &[u32]) -> usize
+    requires { ⌜ Runnable (now b) × Held (now b) (placeOf tag i n) × Measured (now b) (now lengths) × SizesOf (now b) z ⌝ }
     ensures { λ r. ⌜ (r ≡ length (openingOf (placeOf tag i n)) + length (closing (contextOf (now (b .entry)) (placeOf tag i n)))) × (r ≤ 400000) ⌝ }
 {
     if tag == 8 {
         return 5 + writer::length_in(lengths, i);
     }
-    place_length(b, stepper::place_of(tag, i, n), lengths)
+    place_length(b, z, stepper::place_of(tag, i, n), lengths)
 }
 
 fn work_length(b: &[u8], x: Work, lengths: &[u32]) -> usize
@@ -219,6 +221,7 @@ fn work_length(b: &[u8], x: Work, lengths: &[u32]) -> usize
 
 pub fn moment_length(
     b: &[u8],
+    z: Sizes,
     tags: &[u8],
     nodes: &[u32],
     integers: &[i32],
@@ -226,13 +229,13 @@ pub fn moment_length(
     x: Work,
     lengths: &[u32],
 ) -> usize
-    requires { ⌜ Stands (now b) (framesOf (now tags) (now nodes) (now integers)) h x × Measured (now b) (now lengths) ⌝ }
+    requires { ⌜ Stands (now b) (framesOf (now tags) (now nodes) (now integers)) h x × Measured (now b) (now lengths) × SizesOf (now b) z ⌝ }
     ensures { λ r. ⌜ (r ≡ length (momentText (now (b .entry)) (framesOf (now (tags .entry)) (now (nodes .entry)) (now (integers .entry))) h x)) × (r < 1000000000) ⌝ }
 {
     let mut r = work_length(b, x, lengths);
     let mut j = 0;
     while j < h {
-        r += lent_length(b, tags[j], nodes[j], integers[j], lengths);
+        r += lent_length(b, z, tags[j], nodes[j], integers[j], lengths);
         j += 1;
     }
     r

@@ -21,6 +21,7 @@ use tracer::Page;
 // Writes page after page, the first of them in the buffer already, until the last line is out.
 fn print_pages(
     b: &[u8],
+    z: Sizes,
     tags: &mut [u8],
     nodes: &mut [u32],
     integers: &mut [i32],
@@ -30,7 +31,7 @@ fn print_pages(
     lengths: &[u32],
     buf: &mut [u8],
 )
-    requires { ⌜ (fuel < 4294967296) × (first .machine .steps ≤ fuel) × Measured (now b) (now lengths) × (length (now s) ≤ 64) × (10000 ≤ length (now buf)) × (first .at ≤ length (now buf)) ⌝ }
+    requires { ⌜ (fuel < 4294967296) × (first .machine .steps ≤ fuel) × Measured (now b) (now lengths) × (length (now s) ≤ 64) × (10000 ≤ length (now buf)) × (first .at ≤ length (now buf)) × SizesOf (now b) z ⌝ }
     requires { ⌜ (first .ended ≡ false → (s₀ : Store) × (ls : List (List ℕ)) × ToldTo (now b) s₀ ls (pendingOf (now tags) (now nodes) (now integers) (first .height)) (first .machine) (now s)) ⌝ }
 {
     let mut page = first;
@@ -45,6 +46,7 @@ fn print_pages(
         let m = page.machine;
         page = tracer::fill_page(
             b,
+            z,
             tags,
             nodes,
             integers,
@@ -71,13 +73,13 @@ fn print_run(input: &[u8], z: Sizes, buf: &mut [u8])
     intake::values_in(input, s);
     let fuel = intake::fuel_in(input) as u64;
     let mut lengths = [0u32; 4096];
-    writer::measure(b, z.nodes, &mut lengths);
+    writer::measure(b, z, &mut lengths);
     let mut tags = [0u8; 256];
     let mut nodes = [0u32; 256];
     let mut integers = [0i32; 256];
     let first = tracer::first_page(
         b,
-        z.nodes,
+        z,
         &mut tags,
         &mut nodes,
         &mut integers,
@@ -88,6 +90,7 @@ fn print_run(input: &[u8], z: Sizes, buf: &mut [u8])
     );
     print_pages(
         b,
+        z,
         &mut tags,
         &mut nodes,
         &mut integers,

@@ -51,17 +51,17 @@ fn show(
     requires { ⌜ Runnable (now b) × SizesOf (now b) z × (locations (now b) ≤ length (now s)) × (length (framesOf (now tags) (now nodes) (now integers)) ≡ 256) × (count (now b) ≤ length (now lengths)) ⌝ }
     ensures { λ r. ⌜ Shows (now (b .entry)) (now (s .entry)) k (now (buf .entry)) (wroteOf r) (now (buf .exit)) ⌝ }
 {
-    let first = machine::start(b, (z.nodes - 1) as u32);
-    let stand = stepper::go_to(b, tags, nodes, integers, 0, first, s, k as u64);
+    let first = machine::start(b, z, (z.nodes - 1) as u32);
+    let stand = stepper::go_to(b, z, tags, nodes, integers, 0, first, s, k as u64);
     let m = stand.machine;
     let x = m.work;
     let h = stand.height;
-    writer::measure(b, z.nodes, lengths);
-    let n = moments::moment_length(b, tags, nodes, integers, h, x, lengths);
+    writer::measure(b, z, lengths);
+    let n = moments::moment_length(b, z, tags, nodes, integers, h, x, lengths);
     if buf.len() < n {
         return Wrote::Refused(Refusal::Buffer(n as u64));
     }
-    let end = moments::put_moment(b, tags, nodes, integers, h, x, buf, 0);
+    let end = moments::put_moment(b, z, tags, nodes, integers, h, x, buf, 0);
     Wrote::Text(Written {
         length: end,
         steps: m.steps,

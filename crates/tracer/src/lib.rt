@@ -5,9 +5,9 @@ ghost use Prim.Native.Nat.{ℕ, _+_, _*_, _≤_, _<_};
 ghost use lib.ListN.{length};
 ghost use Rattle.l1.specs.Store.{Store};
 ghost use Rattle.l1.specs.Text.{bytes, decimal};
-ghost use Rattle.stored.specs.Refusals.{locations, count};
+ghost use Rattle.stored.specs.Refusals.{locations};
 ghost use Rattle.stored.specs.Trace.{newline, shown, values, moment, counts, lastLine};
-ghost use Rattle.routine.specs.Open.{Runnable};
+ghost use Rattle.routine.specs.Open.{Runnable, SizesOf};
 ghost use Rattle.machine.specs.State.{meaning, outcomeOf};
 ghost use Rattle.stepper.specs.Lent.{framesOf, pendingOf};
 ghost use Rattle.writer.specs.Put.{Put};
@@ -17,6 +17,7 @@ ghost use Rattle.tracer.specs.Says.{Tells, Went};
 use machine::Ending;
 use machine::Machine;
 use machine::Work;
+use routine::Sizes;
 
 // Where the buffer and the run stand after some lines, and whether the last line is among them.
 pub struct Page {
@@ -49,6 +50,7 @@ fn put_values(s: &[i32], buf: &mut [u8], at: usize) -> usize
 
 fn put_shown(
     b: &[u8],
+    z: Sizes,
     tags: &[u8],
     nodes: &[u32],
     integers: &[i32],
@@ -58,15 +60,15 @@ fn put_shown(
     buf: &mut [u8],
     at: usize,
 ) -> usize
-    requires { ⌜ Stands (now b) (framesOf (now tags) (now nodes) (now integers)) h x × Measured (now b) (now lengths) × (at + 8192 ≤ length (now buf)) ⌝ }
+    requires { ⌜ Stands (now b) (framesOf (now tags) (now nodes) (now integers)) h x × Measured (now b) (now lengths) × (at + 8192 ≤ length (now buf)) × SizesOf (now b) z ⌝ }
     ensures { λ r. ⌜ Put (now (buf .entry)) at (shown (momentText (now (b .entry)) (framesOf (now (tags .entry)) (now (nodes .entry)) (now (integers .entry))) h x)) (now (buf .exit)) r × (r ≤ at + 8192) ⌝ }
 {
-    let n = moments::moment_length(b, tags, nodes, integers, h, x, lengths);
+    let n = moments::moment_length(b, z, tags, nodes, integers, h, x, lengths);
     if SHOWN < n {
         let p = writer::put_byte(35, buf, at);
         writer::put_decimal(n as u64, buf, p)
     } else {
-        moments::put_moment(b, tags, nodes, integers, h, x, buf, at)
+        moments::put_moment(b, z, tags, nodes, integers, h, x, buf, at)
     }
 }
 
@@ -113,6 +115,7 @@ fn put_tail(s: &[i32], buf: &mut [u8], at: usize) -> usize
 // The line of a moment.
 pub fn put_line(
     b: &[u8],
+    z: Sizes,
     tags: &[u8],
     nodes: &[u32],
     integers: &[i32],
@@ -123,12 +126,12 @@ pub fn put_line(
     buf: &mut [u8],
     at: usize,
 ) -> usize
-    requires { ⌜ Stands (now b) (framesOf (now tags) (now nodes) (now integers)) h (m .work) × Measured (now b) (now lengths) × (length (now s) ≤ 64) × (at + 10000 ≤ length (now buf)) ⌝ }
+    requires { ⌜ Stands (now b) (framesOf (now tags) (now nodes) (now integers)) h (m .work) × Measured (now b) (now lengths) × (length (now s) ≤ 64) × (at + 10000 ≤ length (now buf)) × SizesOf (now b) z ⌝ }
     ensures { λ r. ⌜ Put (now (buf .entry)) at (moment (m .steps) (nameOf (m .rule)) (meaning (now (b .entry)) (pendingOf (now (tags .entry)) (now (nodes .entry)) (now (integers .entry)) h) m) (now (s .entry))) (now (buf .exit)) r × (r ≤ at + 10000) ⌝ }
 {
     let x = m.work;
     let p = put_head(m.steps, m.rule, buf, at);
-    let q = put_shown(b, tags, nodes, integers, h, x, lengths, buf, p);
+    let q = put_shown(b, z, tags, nodes, integers, h, x, lengths, buf, p);
     put_tail(s, buf, q)
 }
 
@@ -185,6 +188,7 @@ fn next_limit(steps: u64, fuel: u64) -> u64
 // The next line: that of the moment after one step more, or the last.
 fn next_line(
     b: &[u8],
+    z: Sizes,
     tags: &mut [u8],
     nodes: &mut [u32],
     integers: &mut [i32],
@@ -196,13 +200,13 @@ fn next_line(
     buf: &mut [u8],
     at: usize,
 ) -> Page
-    requires { ⌜ (fuel < 4294967296) × (machine .steps ≤ fuel) × Measured (now b) (now lengths) × (length (now s) ≤ 64) × (at + 10000 ≤ length (now buf)) ⌝ }
+    requires { ⌜ (fuel < 4294967296) × (machine .steps ≤ fuel) × Measured (now b) (now lengths) × (length (now s) ≤ 64) × (at + 10000 ≤ length (now buf)) × SizesOf (now b) z ⌝ }
     requires { ⌜ ((s₀ : Store) × (ls : List (List ℕ)) × ToldTo (now b) s₀ ls (pendingOf (now tags) (now nodes) (now integers) height) machine (now s)) ⌝ }
     ensures { λ r. ⌜ ((s₀ : Store) (ls : List (List ℕ)) → ToldTo (now (b .entry)) s₀ ls (pendingOf (now (tags .entry)) (now (nodes .entry)) (now (integers .entry)) height) machine (now (s .entry)) → Tells (now (b .entry)) s₀ fuel ls (now (buf .entry)) at (now (buf .exit)) (pendingOf (now (tags .exit)) (now (nodes .exit)) (now (integers .exit)) (r .height)) (now (s .exit)) r) × Went fuel (machine .steps) (length (now (buf .entry))) r ⌝ }
 {
     let steps = machine.steps;
     let limit = next_limit(steps, fuel);
-    let stand = stepper::go_to(b, tags, nodes, integers, height, machine, s, limit);
+    let stand = stepper::go_to(b, z, tags, nodes, integers, height, machine, s, limit);
     let ending = stand.ending;
     let m = stand.machine;
     let h = stand.height;
@@ -215,7 +219,7 @@ fn next_line(
             machine: m,
         };
     }
-    let q = put_line(b, tags, nodes, integers, h, m, s, lengths, buf, at);
+    let q = put_line(b, z, tags, nodes, integers, h, m, s, lengths, buf, at);
     Page {
         at: q,
         ended: false,
@@ -227,6 +231,7 @@ fn next_line(
 // The next lines, until the last is among them or there might be no room for one more.
 pub fn fill_page(
     b: &[u8],
+    z: Sizes,
     tags: &mut [u8],
     nodes: &mut [u32],
     integers: &mut [i32],
@@ -238,7 +243,7 @@ pub fn fill_page(
     buf: &mut [u8],
     at: usize,
 ) -> Page
-    requires { ⌜ (fuel < 4294967296) × (machine .steps ≤ fuel) × Measured (now b) (now lengths) × (length (now s) ≤ 64) × (at + 10000 ≤ length (now buf)) ⌝ }
+    requires { ⌜ (fuel < 4294967296) × (machine .steps ≤ fuel) × Measured (now b) (now lengths) × (length (now s) ≤ 64) × (at + 10000 ≤ length (now buf)) × SizesOf (now b) z ⌝ }
     requires { ⌜ ((s₀ : Store) × (ls : List (List ℕ)) × ToldTo (now b) s₀ ls (pendingOf (now tags) (now nodes) (now integers) height) machine (now s)) ⌝ }
     ensures { λ r. ⌜ ((s₀ : Store) (ls : List (List ℕ)) → ToldTo (now (b .entry)) s₀ ls (pendingOf (now (tags .entry)) (now (nodes .entry)) (now (integers .entry)) height) machine (now (s .entry)) → Tells (now (b .entry)) s₀ fuel ls (now (buf .entry)) at (now (buf .exit)) (pendingOf (now (tags .exit)) (now (nodes .exit)) (now (integers .exit)) (r .height)) (now (s .exit)) r) × Went fuel (machine .steps) (length (now (buf .entry))) r ⌝ }
 {
@@ -253,6 +258,7 @@ pub fn fill_page(
         let m = page.machine;
         page = next_line(
             b,
+            z,
             tags,
             nodes,
             integers,
@@ -271,7 +277,7 @@ pub fn fill_page(
 // The first lines, from the start on.
 pub fn first_page(
     b: &[u8],
-    n: usize,
+    z: Sizes,
     tags: &mut [u8],
     nodes: &mut [u32],
     integers: &mut [i32],
@@ -280,13 +286,14 @@ pub fn first_page(
     lengths: &[u32],
     buf: &mut [u8],
 ) -> Page
-    requires { ⌜ Runnable (now b) × (n ≡ count (now b)) × (locations (now b) ≤ length (now s)) × (length (now s) ≤ 64) × (length (framesOf (now tags) (now nodes) (now integers)) ≡ 256) × Measured (now b) (now lengths) × (fuel < 4294967296) × (20000 ≤ length (now buf)) ⌝ }
+    requires { ⌜ Runnable (now b) × (locations (now b) ≤ length (now s)) × (length (now s) ≤ 64) × (length (framesOf (now tags) (now nodes) (now integers)) ≡ 256) × Measured (now b) (now lengths) × (fuel < 4294967296) × (20000 ≤ length (now buf)) × SizesOf (now b) z ⌝ }
     ensures { λ r. ⌜ Tells (now (b .entry)) (now (s .entry)) fuel [] (now (buf .entry)) 0 (now (buf .exit)) (pendingOf (now (tags .exit)) (now (nodes .exit)) (now (integers .exit)) (r .height)) (now (s .exit)) r × Went fuel 0 (length (now (buf .entry))) r ⌝ }
 {
-    let first = machine::start(b, (n - 1) as u32);
-    let at = put_line(b, tags, nodes, integers, 0, first, s, lengths, buf, 0);
+    let first = machine::start(b, z, (z.nodes - 1) as u32);
+    let at = put_line(b, z, tags, nodes, integers, 0, first, s, lengths, buf, 0);
     fill_page(
         b,
+        z,
         tags,
         nodes,
         integers,

@@ -4,7 +4,7 @@
 // by its length before its first byte is written.
 ghost use mathlib.Core.Path.{_≡_};
 ghost use mathlib.Core.List.{[], _∷_, _++_};
-ghost use Prim.Native.Nat.{_+_, _*_, _/_, _%_, _≤_, _<_};
+ghost use Prim.Native.Nat.{_+_, _%_, _≤_, _<_};
 ghost use lib.ListN.{length, getD};
 ghost use Rattle.l1.specs.Text.{bytes, decimal, number, truth, location};
 ghost use Rattle.stored.specs.Layout.{child1, child2};

@@ -38,11 +38,11 @@ module _ (b : List ℕ) (fs : List Frame) where
   all-of-it h x = omega (arith, length-plug (stack b fs h) (exprOf b x), ap length (opens-of b fs h))
 
 abbrev Inv-loop : tie.InvT-loop
-Inv-loop b tags nodes integers h lengths r₀ j₀ r j =
+Inv-loop b z tags nodes integers h lengths r₀ j₀ r j =
     (j ≤ h) × (r ≡ r₀ + around b (framesOf tags nodes integers) j) × (r ≤ 200000 + 400000 * j)
 
 abbrev μ-loop : tie.MeasureT-loop
-μ-loop b tags nodes integers h lengths r₀ j₀ r j = h - j
+μ-loop b z tags nodes integers h lengths r₀ j₀ r j = h - j
 
 abbrev entry : tie.At-loop Inv-loop μ-loop → tie.Start Inv-loop μ-loop
 entry l = l .before .before .before .before .before .before
@@ -82,7 +82,7 @@ place-is c =
 place-held : tie.Need-lent-length-requires Inv-loop μ-loop
 place-held c κs =
     let p = entry (head c) .pre in
-    (p .0 .runnable, subst (Held _) (sym (place-is c)) (p .0 .held (head c .loop .j) (c .before .before .before .loop-test .taken)), p .1)
+    (p .0 .runnable, subst (Held _) (sym (place-is c)) (p .0 .held (head c .loop .j) (c .before .before .before .loop-test .taken)), p .1, p .2)
 
 again : tie.Need-loop-again Inv-loop μ-loop
 again c =

@@ -1,5 +1,5 @@
 -- `moments::place_length` meets its contract, place by place: the table holds the lengths of the texts of the place's nodes.
-use Prim.Native.Nat.{ℕ, _+_, _≤_, _<_}
+use Prim.Native.Nat.{ℕ, _≤_, _<_}
 use native.Mathlib.Omega.{arith}
 use mathlib.Core.Path.{_≡_, refl, subst}
 use mathlib.Core.List.{List}
@@ -9,12 +9,12 @@ use mir.ValLaws.{toZ-ofZ}
 use denote.Ref.{now}
 use borrow.Author.Needs.{needs}
 use Rattle.l1.specs.Text.{text}
-use Rattle.stored.specs.Layout.{start}
 use Rattle.stored.specs.Refusals.{count}
+use Rattle.routine.specs.Open.{IsOpen}
+use Rattle.routine.proofs.Standing.{may-read}
 use Rattle.machine.specs.State.{Held}
 use Rattle.machine.specs.declared.Place.{Place}
-use Rattle.writer.specs.Pieces.{textAt}
-use Rattle.writer.proofs.ReadPieces.{node-bytes}
+use Rattle.writer.specs.Texts.{textAt}
 use Rattle.moments.proofs.NodeLengths.{in-table, told}
 use Rattle.moments.proofs.place_length.Statement.{statement}
 use Rattle.moments.proofs.place_length.Tie as tie
@@ -30,8 +30,8 @@ module _ (a : tie.After-shared-slice-known2) where
   place-held : {f : Place} → a .before .before .args .f ≡ f → Held (bytes a) f
   place-held e = subst (Held _) e (a .before .before .pre .1)
 
-  in-bytes : {i : ℕ} → i < count (bytes a) → start (i + 1) ≤ length (bytes a)
-  in-bytes l = node-bytes (a .before .before .pre .0) _ l
+  readable : {i : ℕ} → i < count (bytes a) → IsOpen (bytes a) (a .before .before .args .z) × (i < a .before .before .args .z .nodes)
+  readable l = may-read (a .before .before .pre .0) (a .before .before .pre .3) l
 
   -- node k, which the code reads as j
   module _ {j k : ℕ} (q : j ≡ k) (l : k < count (bytes a)) where
@@ -104,11 +104,11 @@ place-length-spec =
     (tie.spec
     (λ c. search needs)
     (λ c. search needs)
-    (λ c κs. let k = c .before in let a = k .before .before in in-bytes a (place-held a (k .f .given .1) .0))
+    (λ c κs. let k = c .before in let a = k .before .before in readable a (place-held a (k .f .given .1) .0))
     (λ c κs. let k = c .before .before in let a = k .before .before in has-length a (c .second-at .ensures) (place-held a (k .f .given .1) .1))
     (λ c. search needs)
     (λ c. search needs)
-    (λ c κs. let k = c .before in let a = k .before .before in in-bytes a (place-held a (k .f2 .given .1) .0))
+    (λ c κs. let k = c .before in let a = k .before .before in readable a (place-held a (k .f2 .given .1) .0))
     (λ c κs. let k = c .before .before in let a = k .before .before in has-length a (c .second-at2 .ensures) (place-held a (k .f2 .given .1) .1))
     (λ c. search needs)
     (λ c. search needs)
@@ -118,14 +118,14 @@ place-length-spec =
     (λ c κs. search needs)
     (λ c. search needs)
     (λ c. search needs)
-    (λ c κs. let k = c .before in let a = k .before .before in in-bytes a (place-held a (k .f5 .given .1) .0))
+    (λ c κs. let k = c .before in let a = k .before .before in readable a (place-held a (k .f5 .given .1) .0))
     (λ c κs. let k = c .before .before in let a = k .before .before in has-length a (c .second-at3 .ensures) (place-held a (k .f5 .given .1) .1))
     (λ c. search needs)
-    (λ c κs. let k = c .before .before .before in let a = k .before .before in in-bytes a (place-held a (k .f5 .given .1) .0))
+    (λ c κs. let k = c .before .before .before in let a = k .before .before in readable a (place-held a (k .f5 .given .1) .0))
     (λ c κs. let k = c .before .before .before .before in let a = k .before .before in has-length a (c .third-at .ensures) (place-held a (k .f5 .given .1) .2))
     (λ c. search needs)
     (λ c. search needs)
-    (λ c κs. let k = c .before in let a = k .before .before in in-bytes a (place-held a (k .f6 .given .1) .0))
+    (λ c κs. let k = c .before in let a = k .before .before in readable a (place-held a (k .f6 .given .1) .0))
     (λ c κs. let k = c .before .before in let a = k .before .before in has-length a (c .second-at4 .ensures) (place-held a (k .f6 .given .1) .1))
     (λ c. search needs)
     (λ c κs. let k = c .before .before .before in let a = k .before .before in has-length a refl (place-held a (k .f6 .given .1) .0))

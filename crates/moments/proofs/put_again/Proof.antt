@@ -5,9 +5,9 @@ use mathlib.Core.List.{_++_}
 use borrow.Author.Needs.{needs}
 use Rattle.l1.specs.Text.{bytes}
 use Rattle.stored.specs.Layout.{child2}
-use Rattle.writer.specs.Pieces.{textAt}
+use Rattle.routine.proofs.Standing.{may-read}
+use Rattle.writer.specs.Texts.{textAt}
 use Rattle.writer.proofs.PutLaws.{put-more, room-rest}
-use Rattle.writer.proofs.ReadPieces.{node-bytes}
 use Rattle.moments.proofs.PieceRooms.{room-as, rooms}
 use Rattle.moments.proofs.ClosingPieces.{again-pieces}
 use Rattle.moments.proofs.put_again.Statement.{statement}
@@ -33,7 +33,7 @@ room-for-body c κs =
     let again = bytes " ; " ++ textAt b i ++ bytes ")" in
     let room = room-as (s .args .at) (s .args .buf .now) (again-pieces b i (y .second-at .ensures)) (s .pre .2) in
     let two = rooms (s .args .at) (bytes " then (") t again (bytes " else skip)") (s .args .buf .now) room .1 in
-    (s .pre .0, omega (arith, y .second-at .ensures, s .pre .1 .1), room-rest t (w .put-bytes .ensures) two)
+    (s .pre .0, omega (arith, y .second-at .ensures, s .pre .1 .1), room-rest t (w .put-bytes .ensures) two, s .pre .3)
 
 room-for-loop : tie.Need-put-right-requires
 room-for-loop c κs =
@@ -47,7 +47,7 @@ room-for-loop c κs =
     let again = bytes " ; " ++ textAt b i ++ bytes ")" in
     let room = room-as (s .args .at) (s .args .buf .now) (again-pieces b i (y .second-at .ensures)) (s .pre .2) in
     let three = rooms (s .args .at) (bytes " then (") t again (bytes " else skip)") (s .args .buf .now) room .2 in
-    (s .pre .0, s .pre .1 .0, room-rest again (put-more (w .put-bytes .ensures) (v .put-tree .ensures)) three)
+    (s .pre .0, s .pre .1 .0, room-rest again (put-more (w .put-bytes .ensures) (v .put-tree .ensures)) three, s .pre .3)
 
 room-for-else : tie.Need-put-bytes-requires-2
 room-for-else c κs =
@@ -76,7 +76,7 @@ put-again-spec =
     (tie.spec
     (λ c. search needs)
     room-for-then
-    (λ c κs. let s = c .before .before .before .before .before .before .before in node-bytes (s .pre .0) (s .args .i) (s .pre .1 .0))
+    (λ c κs. let s = c .before .before .before .before .before .before .before in may-read (s .pre .0) (s .pre .3) (s .pre .1 .0))
     room-for-body
     (λ c. search needs)
     room-for-loop

@@ -5,9 +5,9 @@ use mathlib.Core.List.{_++_}
 use borrow.Author.Needs.{needs}
 use Rattle.l1.specs.Text.{bytes}
 use Rattle.stored.specs.Layout.{child3}
-use Rattle.writer.specs.Pieces.{textAt}
+use Rattle.routine.proofs.Standing.{may-read}
+use Rattle.writer.specs.Texts.{textAt}
 use Rattle.writer.proofs.PutLaws.{put-more, room-first, room-rest}
-use Rattle.writer.proofs.ReadPieces.{node-bytes}
 use Rattle.moments.proofs.PieceRooms.{room-as}
 use Rattle.moments.proofs.ClosingPieces.{if-pieces}
 use Rattle.moments.proofs.put_branches.Statement.{statement}
@@ -23,7 +23,7 @@ room-for-first c κs =
     let rest = bytes " else " ++ textAt b (child3 b (s .args .i)) ++ bytes ")" in
     let room = room-as (s .args .at) (s .args .buf .now) (if-pieces b (s .args .i) (y .second-at .ensures) refl) (s .pre .2) in
     let two = room-first (s .args .at) (bytes " then " ++ t) rest (s .args .buf .now) room in
-    (s .pre .0, omega (arith, y .second-at .ensures, s .pre .1 .1), room-rest t (w .put-bytes .ensures) two)
+    (s .pre .0, omega (arith, y .second-at .ensures, s .pre .1 .1), room-rest t (w .put-bytes .ensures) two, s .pre .3)
 
 room-for-second : tie.Need-put-right-requires
 room-for-second c κs =
@@ -37,6 +37,7 @@ room-for-second c κs =
       s .pre .0,
       omega (arith, x .third-at .ensures, s .pre .1 .2),
       room-rest (bytes " else " ++ textAt b (x .third-at .result) ++ bytes ")") (put-more (w .put-bytes .ensures) (v .put-tree .ensures)) room,
+      s .pre .3,
     )
 
 all : tie.Need-returns
@@ -56,12 +57,12 @@ put-branches-spec =
     (tie.spec
     (λ c. search needs)
     (λ c κs. search needs)
-    (λ c κs. let s = c .before .before .before .before .before .before .before in node-bytes (s .pre .0) (s .args .i) (s .pre .1 .0))
+    (λ c κs. let s = c .before .before .before .before .before .before .before in may-read (s .pre .0) (s .pre .3) (s .pre .1 .0))
     room-for-first
     (λ c. search needs)
     (λ c κs.
     let s = c .before .before .before .before .before .before .before .before .before .before .before .before .before in
-    node-bytes (s .pre .0) (s .args .i) (s .pre .1 .0))
+    may-read (s .pre .0) (s .pre .3) (s .pre .1 .0))
     room-for-second
     (λ c. search needs)
     all)

@@ -18,10 +18,10 @@ use Rattle.moments.proofs.put_closes.Statement.{statement}
 use Rattle.moments.proofs.put_closes.Tie as tie
 
 abbrev Inv-loop : tie.InvT-loop
-Inv-loop b tags nodes integers h buf₀ at p₀ j₀ buf p j = (j ≤ h) × Closed b (framesOf tags nodes integers) h buf₀ at buf p j
+Inv-loop b z tags nodes integers h buf₀ at p₀ j₀ buf p j = (j ≤ h) × Closed b (framesOf tags nodes integers) h buf₀ at buf p j
 
 abbrev μ-loop : tie.MeasureT-loop
-μ-loop b tags nodes integers h buf₀ at p₀ j₀ buf p j = j
+μ-loop b z tags nodes integers h buf₀ at p₀ j₀ buf p j = j
 
 abbrev start : tie.In-loop Inv-loop μ-loop → tie.Start Inv-loop μ-loop
 start c = c .before .before .before .before .before .before
@@ -63,7 +63,7 @@ closing-requires c κs =
     let s = start t in
     let held = s .pre .0 .held (l .j - 1) (omega (arith, below t, l .inv .0)) in
     let e = place-is (c .before) in
-    (s .pre .0 .runnable, subst (Held _) (sym e) held, rw e (room-to-close (l .inv .1) (l .j - 1) (below t) (s .pre .1)))
+    (s .pre .0 .runnable, subst (Held _) (sym e) held, rw e (room-to-close (l .inv .1) (l .j - 1) (below t) (s .pre .1)), s .pre .2)
 
 again : tie.Need-loop-again Inv-loop μ-loop
 again c =

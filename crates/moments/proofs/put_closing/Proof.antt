@@ -2,8 +2,8 @@
 use native.Mathlib.Omega.{arith}
 use mathlib.Core.Path.{subst}
 use borrow.Author.Needs.{needs}
+use Rattle.routine.proofs.Standing.{may-read}
 use Rattle.machine.specs.State.{Held}
-use Rattle.writer.proofs.ReadPieces.{node-bytes}
 use Rattle.moments.proofs.put_closing.Statement.{statement}
 use Rattle.moments.proofs.put_closing.Tie as tie
 
@@ -13,7 +13,7 @@ room-right-of-sum c κs =
     let k = y .before .before .before in
     let s = k .before .before .before .before in
     let ex = y .second-at .ensures in
-    (s .pre .0, omega (arith, ex, subst (Held _) (k .f .given .1) (s .pre .1) .1), rw ex (rw (k .f .given .1) at (s .pre .2)))
+    (s .pre .0, omega (arith, ex, subst (Held _) (k .f .given .1) (s .pre .1) .1), rw ex (rw (k .f .given .1) at (s .pre .2)), s .pre .3)
 
 room-right-of-comparison : tie.Need-put-right-requires-2
 room-right-of-comparison c κs =
@@ -21,7 +21,7 @@ room-right-of-comparison c κs =
     let k = y .before .before .before in
     let s = k .before .before .before .before in
     let ex = y .second-at2 .ensures in
-    (s .pre .0, omega (arith, ex, subst (Held _) (k .f2 .given .1) (s .pre .1) .1), rw ex (rw (k .f2 .given .1) at (s .pre .2)))
+    (s .pre .0, omega (arith, ex, subst (Held _) (k .f2 .given .1) (s .pre .1) .1), rw ex (rw (k .f2 .given .1) at (s .pre .2)), s .pre .3)
 
 closes-sum : tie.Need-returns-2
 closes-sum c =
@@ -45,14 +45,14 @@ put-closing-spec =
     (λ c κs.
     let k = c .before .before in
     let s = k .before .before .before .before in
-    node-bytes (s .pre .0) (k .f .given .0 .0) (subst (Held _) (k .f .given .1) (s .pre .1) .0))
+    may-read (s .pre .0) (s .pre .3) (subst (Held _) (k .f .given .1) (s .pre .1) .0))
     room-right-of-sum
     (λ c. search needs)
     (λ c. search needs)
     (λ c κs.
     let k = c .before .before in
     let s = k .before .before .before .before in
-    node-bytes (s .pre .0) (k .f2 .given .0 .0) (subst (Held _) (k .f2 .given .1) (s .pre .1) .0))
+    may-read (s .pre .0) (s .pre .3) (subst (Held _) (k .f2 .given .1) (s .pre .1) .0))
     room-right-of-comparison
     (λ c. search needs)
     (λ c. search needs)
@@ -64,12 +64,12 @@ put-closing-spec =
     (λ c κs.
     let k = c .before .before in
     let s = k .before .before .before .before in
-    (s .pre .0, subst (Held _) (k .f3 .given .1) (s .pre .1), rw (k .f3 .given .1) at (s .pre .2)))
+    (s .pre .0, subst (Held _) (k .f3 .given .1) (s .pre .1), rw (k .f3 .given .1) at (s .pre .2), s .pre .3))
     (λ c. search needs)
     (λ c κs.
     let k = c .before .before in
     let s = k .before .before .before .before in
-    (s .pre .0, subst (Held _) (k .f4 .given .1) (s .pre .1), rw (k .f4 .given .1) at (s .pre .2)))
+    (s .pre .0, subst (Held _) (k .f4 .given .1) (s .pre .1), rw (k .f4 .given .1) at (s .pre .2), s .pre .3))
     (λ c. search needs)
     (λ c. search needs)
     (λ c κs. rw (c .before .before .enum-told4 .given .1) at (c .before .before .before .before .before .before .pre .2))
@@ -78,7 +78,7 @@ put-closing-spec =
     (λ c κs.
     let k = c .before .before .before in
     let s = k .before .before .before .before in
-    (s .pre .0, subst (Held _) (k .f5 .given .1) (s .pre .1), rw (k .f5 .given .1) at (s .pre .2)))
+    (s .pre .0, subst (Held _) (k .f5 .given .1) (s .pre .1), rw (k .f5 .given .1) at (s .pre .2), s .pre .3))
     (λ c. search needs)
     (λ c.
     let k = c .before .before .before .before .before in

@@ -47,14 +47,14 @@ room-for-work c κs =
     let p = c .before .before .before in
     let s = p .before .before .before .before .before .before in
     let stands = s .pre .0 in
-    (stands .runnable, stands .seen, room-rest (work s) (p .put-opens .ensures) (room-to-work s))
+    (stands .runnable, stands .seen, room-rest (work s) (p .put-opens .ensures) (room-to-work s), s .pre .2)
 
 room-to-close : tie.Need-put-closes-requires
 room-to-close c κs =
     let q = c .before .before .before in
     let p = q .before .before .before .before in
     let s = p .before .before .before .before .before .before in
-    (s .pre .0, room-rest (closings s) (put-more (p .put-opens .ensures) (q .put-work .ensures)) (room s))
+    (s .pre .0, room-rest (closings s) (put-more (p .put-opens .ensures) (q .put-work .ensures)) (room s), s .pre .2)
 
 all : tie.Need-returns
 all c =

@@ -3,7 +3,7 @@ use native.Mathlib.Omega.{arith}
 use mathlib.Core.List.{_++_}
 use borrow.Author.Needs.{needs}
 use Rattle.l1.specs.Text.{bytes}
-use Rattle.writer.specs.Pieces.{textAt}
+use Rattle.writer.specs.Texts.{textAt}
 use Rattle.writer.proofs.PutLaws.{put-more, room-first, room-rest}
 use Rattle.moments.proofs.put_right.Statement.{statement}
 use Rattle.moments.proofs.put_right.Tie as tie
@@ -22,7 +22,7 @@ room-for-tree c κs =
     let s = p .before .before .before .before .before in
     let t = textAt (s .args .b .now) (s .args .c) in
     let room = room-first (s .args .at) (s .args .sign .now ++ t) (bytes ")") (s .args .buf .now) (s .pre .2) in
-    (s .pre .0, s .pre .1, room-rest t (p .put-bytes .ensures) room)
+    (s .pre .0, s .pre .1, room-rest t (p .put-bytes .ensures) room, s .pre .3)
 
 room-for-bracket : tie.Need-put-byte-requires
 room-for-bracket c κs =
