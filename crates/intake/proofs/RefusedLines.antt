@@ -1,16 +1,13 @@
--- The line of a refusal in pieces, and the room that a piece leaves.
-use Prim.Native.Nat.{ℕ, _+_, _≤_}
+-- The line of a refusal in pieces.
+use Prim.Native.Nat.{ℕ}
 use native.Mathlib.Omega.{arith}
 use mathlib.Core.Path.{_≡_}
 use mathlib.Core.Bool.{Bool, true, false}
-use mathlib.Core.List.{List, _++_}
-use lib.ListN.{length}
+use mathlib.Core.List.{_++_}
 use Rattle.l1.specs.Text.{bytes, decimal}
 use Rattle.stored.specs.Refusals.{Refusal, no, no-with, number}
 use Rattle.stored.specs.Trace.{newline, refusedLine}
 use Rattle.routine.specs.Says.{returned}
-use Rattle.writer.specs.Put.{Put}
-use Rattle.writer.proofs.PutLaws.{kept}
 use Rattle.intake.specs.Says.{hasMore}
 
 pub line-with : (q : Refusal) {t : Bool} {n i : ℕ} → t ≡ hasMore q → t ≡ true → n ≡ number q → i ≡ returned q

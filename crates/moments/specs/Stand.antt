@@ -2,7 +2,6 @@
 use Prim.Native.Nat.{ℕ, _≤_, _<_}
 use mathlib.Core.Path.{_≡_}
 use mathlib.Core.List.{List}
-use lib.IntN.{ℤ}
 use lib.ListN.{length, getD}
 use Rattle.l1.specs.Text.{text}
 use Rattle.stored.specs.Refusals.{count}
@@ -11,7 +10,6 @@ use Rattle.machine.specs.Contexts.{plug}
 use Rattle.machine.specs.State.{exprOf, Seen, Held, blank, stack}
 use Rattle.machine.specs.declared.Frame.{Frame}
 use Rattle.machine.specs.declared.Work.{Work}
-use Rattle.stepper.specs.Lent.{framesOf}
 use Rattle.writer.specs.Lengths.{LengthsOf}
 
 pub record Stands (b : List ℕ) (fs : List Frame) (h : ℕ) (x : Work) : Type 0 where

@@ -1,5 +1,5 @@
 -- `tracer::fill_page` meets its contract: it tells the next lines as long as there is room for one more.
-use Prim.Native.Nat.{ℕ, _+_, _-_, _≤_, _<_}
+use Prim.Native.Nat.{ℕ, _-_, _≤_, _<_}
 use native.Mathlib.Omega.{arith}
 use mathlib.Core.Path.{_≡_, refl, sym, _∙_}
 use mathlib.Core.Logic.{_⊎_, inl, inr, ⊎-elim}
@@ -7,7 +7,6 @@ use mathlib.Core.Bool.{Bool, true, false, not, _&&_}
 use mathlib.Core.List.{List}
 use lib.Dec.{leb}
 use lib.ListN.{length}
-use borrow.Author.Needs.{needs}
 use borrow.Author.Tests.{leb-true, leb-false}
 use Rattle.l1.proofs.Clash.{clash}
 use Rattle.l1.specs.Store.{Store}
@@ -19,7 +18,7 @@ use Rattle.tracer.proofs.fill_page.Statement.{statement}
 use Rattle.tracer.proofs.fill_page.Tie as tie
 
 abbrev Inv-loop : tie.InvT-loop
-Inv-loop b tags₀ nodes₀ integers₀ height s₀ fuel lengths buf₀ at page₀ room tags nodes integers s buf page =
+Inv-loop b sizes tags₀ nodes₀ integers₀ height s₀ fuel lengths buf₀ at page₀ room tags nodes integers s buf page =
     ((z : Store) (ls : List (List ℕ)) → ToldTo b z ls (pendingOf tags₀ nodes₀ integers₀ height) (page₀ .machine) s₀
     → Tells b z fuel ls buf₀ at buf (pendingOf tags nodes integers (page .height)) s page)
     × (page .machine .steps ≤ fuel)
@@ -29,7 +28,7 @@ Inv-loop b tags₀ nodes₀ integers₀ height s₀ fuel lengths buf₀ at page�
     × (length buf ≡ length buf₀)
 
 abbrev μ-loop : tie.MeasureT-loop
-μ-loop b tags₀ nodes₀ integers₀ height s₀ fuel lengths buf₀ at page₀ room tags nodes integers s buf page = left (page .ended) (fuel - page .machine .steps)
+μ-loop b sizes tags₀ nodes₀ integers₀ height s₀ fuel lengths buf₀ at page₀ room tags nodes integers s buf page = left (page .ended) (fuel - page .machine .steps)
 
 goes-on : (e : Bool) (n m : ℕ) → not e && leb n m ≡ true → (e ≡ false) × (n ≤ m)
 goes-on true n m q = clash q
@@ -49,7 +48,7 @@ next-line-requires c κs =
     let (unended, room) = test (c .before .before .before .before .before .before) in
     let (s₀, ls, i) = s .pre .1 in
     let (ks, t) = told-here (l .inv .0 s₀ ls i) unended in (
-      (s .pre .0 .0, l .inv .1, s .pre .0 .2, omega (arith, l .inv .7, s .pre .0 .3), omega (arith, l .inv .8, room, s .pre .0 .4)),
+      (s .pre .0 .0, l .inv .1, s .pre .0 .2, omega (arith, l .inv .7, s .pre .0 .3), omega (arith, l .inv .8, room, s .pre .0 .4), s .pre .0 .5),
       (s₀, ks, t),
     )
 
@@ -74,11 +73,11 @@ loop-again c =
       w .0,
       (λ e. let h = w .1 e in let low = l .inv .2 (unended c) .0 in (omega arith, inr (omega arith))),
       omega (arith, w .2, l .inv .8),
-      n .kept .1 .0 ∙ l .inv .4,
-      n .kept .1 .1 .0 ∙ l .inv .5,
-      n .kept .1 .1 .1 .0 ∙ l .inv .6,
-      n .kept .1 .1 .1 .1 .1 .1 .0 ∙ l .inv .7,
-      n .kept .1 .1 .1 .1 .1 .1 .1 .1 .1 .0 ∙ l .inv .8,
+      n .kept .1 .1 .0 ∙ l .inv .4,
+      n .kept .1 .1 .1 .0 ∙ l .inv .5,
+      n .kept .1 .1 .1 .1 .0 ∙ l .inv .6,
+      n .kept .1 .1 .1 .1 .1 .1 .1 .0 ∙ l .inv .7,
+      n .kept .1 .1 .1 .1 .1 .1 .1 .1 .1 .1 .0 ∙ l .inv .8,
     )
 
 ends : tie.Need-returns Inv-loop μ-loop

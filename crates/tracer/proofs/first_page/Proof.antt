@@ -20,11 +20,11 @@ use Rattle.tracer.proofs.Telling.{put-one, behind}
 use Rattle.tracer.proofs.first_page.Statement.{statement}
 use Rattle.tracer.proofs.first_page.Tie as tie
 
-root-is : (s : tie.Start) → s .args .n - 1 + 1 ≡ count (now (s .args .b))
-root-is s = let ok = s .pre .0 in let h = is-headed (ok .opens) (ok .holds) in omega (arith, s .pre .1, h .some-nodes)
+root-is : (s : tie.Start) → s .args .z .nodes - 1 + 1 ≡ count (now (s .args .b))
+root-is s = let ok = s .pre .0 in let h = is-headed (ok .opens) (ok .holds) in omega (arith, s .pre .7, h .some-nodes)
 
 abbrev entry : tie.After-start → tie.Start
-entry c = c .before .before .before .before .before .before
+entry c = c .before .before .before .before .before .before .before
 
 abbrev places : tie.Start → Pending
 places s = pendingOf (now (s .args .tags)) (now (s .args .nodes)) (now (s .args .integers)) 0
@@ -32,7 +32,7 @@ places s = pendingOf (now (s .args .tags)) (now (s .args .nodes)) (now (s .args 
 -- the machine stands at the first moment
 first : (c : tie.After-start)
     → Moment (now (entry c .args .b)) (now (entry c .args .s)) (now (entry c .args .s)) (places (entry c)) (c .start .result)
-first c = let s = entry c in first-moment (s .pre .0) (s .pre .2) (root-is s) (refl, s .pre .4) (c .start .ensures)
+first c = let s = entry c in first-moment (s .pre .0) (s .pre .1) (root-is s) (refl, s .pre .3) (c .start .ensures)
 
 abbrev line : tie.After-start → List ℕ
 line c =
@@ -48,7 +48,7 @@ fill-page-requires c κs =
     let a = c .before .before .before .before .before .before .before .before .before .before .before .before .before in
     let s = entry a in
     let (put, low) = c .before .before .before .before .before .before .before .put-line .ensures in (
-      (s .pre .6, omega (arith, a .start .ensures .1), s .pre .5, s .pre .3, omega (arith, low, kept put, s .pre .7)),
+      (s .pre .5, omega (arith, a .start .ensures .1), s .pre .4, s .pre .2, omega (arith, low, kept put, s .pre .6), s .pre .7),
       (now (s .args .s), line a ∷ [], told a),
     )
 
@@ -65,10 +65,10 @@ pub first-page-spec : {M : Type 1} → statement M
 first-page-spec =
     tie.close
     (tie.spec
-    (λ c. omega (arith, root-is (c .before .before .before .before .before)))
-    (λ c. let ok = c .before .before .before .before .before .pre .0 in let h = is-headed (ok .opens) (ok .holds) in omega (arith, c .before .before .before .before .before .pre .1, h .few-nodes))
-    (λ c κs. (c .before .before .before .before .before .pre .0, root-is (c .before .before .before .before .before)))
-    (λ c κs. let a = c .before .before .before .before .before in let s = entry a in (moment-stands (first a), s .pre .5, s .pre .3, omega (arith, s .pre .7)))
+    (λ c. omega (arith, root-is (c .before .before .before .before .before .before)))
+    (λ c. let p = c .before .before .before .before .before .before .pre in omega (arith, p .7, is-headed (p .0 .opens) (p .0 .holds) .few-nodes))
+    (λ c κs. let s = c .before .before .before .before .before .before in (s .pre .0, root-is s, s .pre .7))
+    (λ c κs. let a = c .before .before .before .before .before in let s = entry a in (moment-stands (first a), s .pre .4, s .pre .2, omega (arith, s .pre .6), s .pre .7))
     fill-page-requires
     (λ c. search needs)
     (λ c. search needs)

@@ -44,7 +44,7 @@ go-to-requires c κs =
     let l = c .before .before .before .before .next-limit .ensures in
     let s = c .before .before .before .before .before .before .before .before .before .before in
     let (s₀, ls, i) = s .pre .1 in
-    (omega (arith, s .pre .0 .0), l .1, (s₀, i .moment))
+    (omega (arith, s .pre .0 .0), l .1, (s₀, i .moment), s .pre .0 .5)
 
 put-line-requires : tie.Need-put-line-requires
 put-line-requires c κs =
@@ -52,7 +52,7 @@ put-line-requires c κs =
     let s = start t in
     let (s₀, ls, i) = s .pre .1 in
     let next = t .go-to .ensures s₀ (i .moment) .0 in
-    (moment-stands next, s .pre .0 .2, omega (arith, keeps-length next, keeps-length (i .moment), s .pre .0 .3), s .pre .0 .4)
+    (moment-stands next, s .pre .0 .2, omega (arith, keeps-length next, keeps-length (i .moment), s .pre .0 .3), s .pre .0 .4, s .pre .0 .5)
 
 the-last : tie.Need-returns
 the-last c =

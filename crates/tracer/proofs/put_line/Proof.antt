@@ -21,7 +21,7 @@ head c = c .before .before .before .before
 room-1 : (c : tie.After-put-head) → c .put-head .result + 9970 ≤ length (c .put-head .last .1 .1 .0)
 room-1 c = let (w, few) = c .put-head .ensures in omega (arith, kept w, start c .pre .3)
 
-room-2 : (c : tie.After-put-shown) → c .put-shown .result + 1778 ≤ length (c .put-shown .last .1 .1 .1 .1 .1 .1 .1 .0)
+room-2 : (c : tie.After-put-shown) → c .put-shown .result + 1778 ≤ length (c .put-shown .last .1 .1 .1 .1 .1 .1 .1 .1 .0)
 room-2 c = let (w, few) = c .put-shown .ensures in omega (arith, kept w, room-1 (head c))
 
 all : tie.Need-returns
@@ -39,7 +39,7 @@ put-line-spec =
     tie.close
     (tie.spec
     (λ c κs. let s = c .before .before .before .before .before .before in omega (arith, s .pre .3))
-    (λ c κs. let p = c .before .before .before in (start p .pre .0, start p .pre .1, omega (arith, room-1 p)))
+    (λ c κs. let p = c .before .before .before in (start p .pre .0, start p .pre .1, omega (arith, room-1 p), start p .pre .4))
     (λ c κs. let q = c .before .before .before in (start (head q) .pre .2, omega (arith, room-2 q)))
     (λ c. search needs)
     all)

@@ -2,27 +2,23 @@
 use Prim.Native.Nat.{ℕ, _+_, _≤_}
 use native.Mathlib.Omega.{arith}
 use mathlib.Core.Path.{_≡_}
-use mathlib.Core.Bool.{Bool, true, false}
 use mathlib.Core.List.{List}
 use lib.ListN.{length}
 use mir.Syntax.{w32}
 use mir.Val.{SFits}
 use mir.Facts.{toZ-ofZ}
 use borrow.Author.Needs.{needs}
-use Rattle.l1.specs.Text.{decimal, truth, text}
+use Rattle.l1.specs.Text.{decimal, text}
 use Rattle.machine.specs.State.{outcomeOf}
 use Rattle.machine.specs.declared.Ending.{Ending}
 use Rattle.machine.specs.declared.Ending.the-variants as e
 use Rattle.writer.specs.Put.{Put}
 use Rattle.writer.proofs.PutLaws.{put-more, room-left}
 use Rattle.writer.proofs.NumberLengths.{few-digits, few-bytes}
+use Rattle.writer.proofs.TextLengths.{truth-length}
 use Rattle.tracer.specs.Told.{outcomeText}
 use Rattle.tracer.proofs.put_outcome.Statement.{statement}
 use Rattle.tracer.proofs.put_outcome.Tie as tie
-
-few-letters : (t : Bool) → length (truth t) ≤ 5
-few-letters true = omega arith
-few-letters false = omega arith
 
 -- what is written in the arm of ending a
 in-arm : (a ending : Ending) {at r : ℕ} {b c : List ℕ} → ending ≡ a → length (outcomeText (outcomeOf a)) ≤ 40
@@ -77,7 +73,7 @@ boolean c =
     let k = c .before .before in
     let w = k .before .before .before .before in
     let t = told-2 w .before .ending2 .given .0 .0 in
-    in-arm (e.Bool t) _ (told-2 w .before .ending2 .given .1) (omega (arith, few-letters t)) (put-more (w .put-bytes2 .ensures) (k .put-truth .ensures))
+    in-arm (e.Bool t) _ (told-2 w .before .ending2 .given .1) (omega (arith, truth-length t)) (put-more (w .put-bytes2 .ensures) (k .put-truth .ensures))
 
 nothing : tie.Need-returns-3
 unfolding text
@@ -108,7 +104,7 @@ put-outcome-spec =
     (λ c. search needs)
     (λ c. search needs)
     (λ c κs. search needs)
-    (λ c κs. let w = c .before .before .before in omega (arith, room-2 w, few-letters (told-2 w .before .ending2 .given .0 .0)))
+    (λ c κs. let w = c .before .before .before in omega (arith, room-2 w, truth-length (told-2 w .before .ending2 .given .0 .0)))
     (λ c. search needs)
     (λ c. search needs)
     (λ c κs. search needs)
