@@ -1,7 +1,6 @@
 // Writes the text of each record of a rows file on standard input (crate rows has its form), after as many steps as its fuel says and on its own
 // store, into three buffers: a large one, and where a text was written, one that is a byte too short for it and one that just holds it. A line for
 // each: the refusal, or the length, T and the text; and ` changed` where a byte behind the text (after a refusal: any byte) is no longer what it was.
-ghost use mathlib.Core.Path.{_≡_};
 ghost use Prim.Native.Nat.{_≤_};
 ghost use lib.ListN.{length};
 use libc::STDOUT_FILENO;

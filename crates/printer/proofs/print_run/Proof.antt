@@ -1,13 +1,12 @@
 -- `printer::print_run` is safe: the first page is that of the run, and what is handed on to the pages after it stands at its last moment.
 use Prim.Native.Nat.{ℕ, _≤_}
 use native.Mathlib.Omega.{arith}
-use mathlib.Core.Path.{_≡_, refl, sym, _∙_, subst}
+use mathlib.Core.Path.{_≡_, refl, sym, _∙_}
 use mathlib.Core.List.{List}
 use lib.ListN.{length, take}
 use lib.Seq.{length-take-le}
 use denote.Ref.{now}
 use borrow.Author.Needs.{needs}
-use Rattle.stored.specs.Refusals.{locations, count, routine}
 use Rattle.routine.specs.Open.{SizesOf, Runnable}
 use Rattle.routine.proofs.Standing.{is-headed}
 use Rattle.tracer.proofs.Telling.{told-here}
@@ -53,13 +52,13 @@ first-page-requires c κs =
     let h = is-headed (ok .opens) (ok .holds) in
     let n = store-length v in (
       ok,
-      z .0,
       omega (arith, n, sized v .wide .ensures .0, z .1),
       omega (arith, n, few (sized v)),
       refl,
       (omega (arith, c .before .before .before .before .before .before .before .measure .kept .1 .1 .0, h .few-nodes), c .before .before .before .before .before .before .before .measure .ensures),
       c .before .before .before .before .before .before .before .before .before .fuel-in .ok,
       start e .pre .2,
+      z,
     )
 
 print-pages-requires : tie.Need-print-pages-requires
@@ -77,6 +76,7 @@ print-pages-requires c κs =
         omega (arith, p .kept .1 .1 .1 .1 .1 .0, store-length v, few (sized v)),
         omega (arith, room, start e .pre .2),
         omega (arith, room, p .ensures .1 .2),
+        sizes e,
       ),
       λ q. let (ks, t) = told-here (p .ensures .0) q in (v .values-in .last .1 .0, ks, t),
     )
@@ -94,7 +94,7 @@ print-run-spec =
     (λ c κs. c .before .before .before .before .before .before .before .before .before .pre .0)
     (λ c. search needs)
     (λ c. search needs)
-    (λ c κs. let e = c .before .before .before .before .before .before .before .before in let ok = runs e in let h = is-headed (ok .opens) (ok .holds) in (ok, sizes e .0, omega (arith, sizes e .0, h .few-nodes)))
+    (λ c κs. let e = c .before .before .before .before .before .before .before .before in let ok = runs e in let h = is-headed (ok .opens) (ok .holds) in (ok, omega (arith, h .few-nodes), sizes e))
     (λ c. refl)
     (λ c. refl)
     (λ c. refl)

@@ -1,7 +1,6 @@
 -- `text_rows::changed` is safe and ends.
 use Prim.Native.Nat.{_≤_, _-_}
 use native.Mathlib.Omega.{arith}
-use mathlib.Core.Path.{_≡_}
 use borrow.Author.Needs.{needs}
 use lib.ListN.{length}
 use Rattle.text_rows.proofs.changed.Statement.{statement}
