@@ -105,15 +105,13 @@ module _ (t : ℕ) where
 
   opened-node : put-opened-lts.Need-put-tree-requires opened-claims (put-opened-at t) put-opened.Post
   opened-node c κs =
-      let w = c .before .before .before in
-      let s = w .before .before .before .before in
-      (omega (arith, s .pre .0), (s .pre .1 .0, s .pre .1 .1, room-rest (textAt (now (s .args .b)) (s .args .j)) (w .put-byte .ensures) (s .pre .1 .2), s .pre .1 .3))
+      let w = c .before .before .before in let s = w .before .before .before .before in let (m, (ok, h, room, sizes)) = s .pre in
+      (omega arith, (ok, h, room-rest (textAt (now (s .args .b)) (s .args .j)) (w .put-byte .ensures) room, sizes))
 
-  all-opened : put-opened-lts.Need-returns opened-claims (put-opened-at t) put-opened.Post
-  all-opened c =
+  opened : put-opened-lts.Need-returns opened-claims (put-opened-at t) put-opened.Post
+  opened c =
       let v = c .before .before in
-      let w = v .before .before .before .before in
-      put-more (w .put-byte .ensures) (v .put-tree .ensures)
+      put-more (v .before .before .before .before .put-byte .ensures) (v .put-tree .ensures)
 
   abbrev closed-claims : put-closed-lts.Claims
   closed-claims = (
@@ -123,22 +121,20 @@ module _ (t : ℕ) where
     put-byte-reads.Learnt,
   )
 
-  node-closed : put-closed-lts.Need-put-tree-requires closed-claims (put-closed-at t) put-closed.Post
-  node-closed c κs =
-      let s = c .before .before .before in
-      (omega (arith, s .pre .0), (s .pre .1 .0, s .pre .1 .1, omega (arith, length-append (textAt (now (s .args .b)) (s .args .j)) (bytes ")"), s .pre .1 .2), s .pre .1 .3))
+  closed-node : put-closed-lts.Need-put-tree-requires closed-claims (put-closed-at t) put-closed.Post
+  closed-node c κs =
+      let s = c .before .before .before in let (m, (ok, h, room, sizes)) = s .pre in
+      (omega arith, (ok, h, room-first (s .args .at) (textAt (now (s .args .b)) (s .args .j)) (bytes ")") (now (s .args .buf)) room, sizes))
 
-  bracket : put-closed-lts.Need-put-byte-requires closed-claims (put-closed-at t) put-closed.Post
-  bracket c κs =
+  closed-bracket : put-closed-lts.Need-put-byte-requires closed-claims (put-closed-at t) put-closed.Post
+  closed-bracket c κs =
       let w = c .before .before .before in
-      let s = w .before .before .before .before in
-      omega (arith, room-rest (bytes ")") (w .put-tree .ensures) (s .pre .1 .2))
+      omega (arith, room-rest (bytes ")") (w .put-tree .ensures) (w .before .before .before .before .pre .1 .2))
 
-  all-closed : put-closed-lts.Need-returns closed-claims (put-closed-at t) put-closed.Post
-  all-closed c =
+  closed : put-closed-lts.Need-returns closed-claims (put-closed-at t) put-closed.Post
+  closed c =
       let v = c .before .before in
-      let w = v .before .before .before .before in
-      put-more (w .put-tree .ensures) (v .put-byte .ensures)
+      put-more (v .before .before .before .before .put-tree .ensures) (v .put-byte .ensures)
 
 -- ---- a loop
 
@@ -157,48 +153,47 @@ module _ (t : ℕ) where
 
   while-word : put-while-lts.Need-put-bytes-requires while-claims (put-while-at t) put-while.Post
   while-word c κs =
-      let s = c .before .before .before .before in
-      omega (arith, simp length-append at (ap length (while-text (s .pre .1 .0) (s .pre .1 .1) refl refl (s .pre .1 .3))), s .pre .1 .2)
+      let (m, (ok, h, room, e, sizes)) = c .before .before .before .before .pre in
+      omega (arith, simp length-append at (ap length (while-text ok h refl refl e)))
 
   while-first : put-while-lts.Need-put-tree-requires while-claims (put-while-at t) put-while.Post
   while-first c κs =
-      let x = c .before in let w = x .before .before .before in let s = w .before .before .before .before .before in
-      let d = w .put-bytes .ensures in
-      let l = simp length-append at (ap length (while-text (s .pre .1 .0) (s .pre .1 .1) (x .first-at .ensures) refl (s .pre .1 .3))) in
-      let j = children (s .pre .1 .0) (s .pre .1 .1) (s .pre .1 .3) in
-      (omega (arith, j .0, x .first-at .ensures, s .pre .0), (s .pre .1 .0, omega (arith, j .0, x .first-at .ensures, s .pre .1 .1), omega (arith, l, d .next, kept d, s .pre .1 .2), s .pre .1 .4))
+      let x = c .before in let w = x .before .before .before in let (m, (ok, h, room, e, sizes)) = w .before .before .before .before .before .pre in
+      let p = x .first-at .ensures in let j = children ok h e in let l = simp length-append at (ap length (while-text ok h p refl e)) in
+      (omega arith, (ok, omega arith, omega (arith, kept (w .put-bytes .ensures)), sizes))
 
   while-second-word : put-while-lts.Need-put-bytes-requires-2 while-claims (put-while-at t) put-while.Post
   while-second-word c κs =
       let v = c .before .before .before .before in let x = v .before .before in let w = x .before .before .before in
-      let s = w .before .before .before .before .before in let d = put-more (w .put-bytes .ensures) (v .put-tree .ensures) in
-      let l = simp length-append at (ap length (while-text (s .pre .1 .0) (s .pre .1 .1) (x .first-at .ensures) refl (s .pre .1 .3))) in
-      omega (arith, l, d .next, kept d, s .pre .1 .2)
+      let (m, (ok, h, room, e, sizes)) = w .before .before .before .before .before .pre in
+      let d = put-more (w .put-bytes .ensures) (v .put-tree .ensures) in
+      let l = simp length-append at (ap length (while-text ok h (x .first-at .ensures) refl e)) in
+      omega (arith, kept d)
 
   while-second : put-while-lts.Need-put-tree-requires-2 while-claims (put-while-at t) put-while.Post
   while-second c κs =
       let y = c .before in let u = y .before .before .before in let v = u .before .before .before .before .before in let x = v .before .before in
-      let w = x .before .before .before in let s = w .before .before .before .before .before in
+      let w = x .before .before .before in let (m, (ok, h, room, e, sizes)) = w .before .before .before .before .before .pre in
+      let p = y .second-at .ensures in let j = children ok h e in
       let d = put-more (put-more (w .put-bytes .ensures) (v .put-tree .ensures)) (u .put-bytes2 .ensures) in
-      let l = simp length-append at (ap length (while-text (s .pre .1 .0) (s .pre .1 .1) (x .first-at .ensures) (y .second-at .ensures) (s .pre .1 .3))) in
-      let j = children (s .pre .1 .0) (s .pre .1 .1) (s .pre .1 .3) in
-      (omega (arith, j .1, y .second-at .ensures, s .pre .0), (s .pre .1 .0, omega (arith, j .1, y .second-at .ensures, s .pre .1 .1), omega (arith, l, d .next, kept d, s .pre .1 .2), s .pre .1 .4))
+      let l = simp length-append at (ap length (while-text ok h (x .first-at .ensures) p e)) in
+      (omega arith, (ok, omega arith, omega (arith, kept d), sizes))
 
   while-third-word : put-while-lts.Need-put-bytes-requires-3 while-claims (put-while-at t) put-while.Post
   while-third-word c κs =
       let q = c .before .before .before .before in let y = q .before .before in let u = y .before .before .before in
       let v = u .before .before .before .before .before in let x = v .before .before in let w = x .before .before .before in
-      let s = w .before .before .before .before .before in
+      let (m, (ok, h, room, e, sizes)) = w .before .before .before .before .before .pre in
       let d = put-more (put-more (put-more (w .put-bytes .ensures) (v .put-tree .ensures)) (u .put-bytes2 .ensures)) (q .put-tree2 .ensures) in
-      let l = simp length-append at (ap length (while-text (s .pre .1 .0) (s .pre .1 .1) (x .first-at .ensures) (y .second-at .ensures) (s .pre .1 .3))) in
-      omega (arith, l, d .next, kept d, s .pre .1 .2)
+      let l = simp length-append at (ap length (while-text ok h (x .first-at .ensures) (y .second-at .ensures) e)) in
+      omega (arith, kept d)
 
-  all-of-while : put-while-lts.Need-returns while-claims (put-while-at t) put-while.Post
-  all-of-while c =
+  while-all : put-while-lts.Need-returns while-claims (put-while-at t) put-while.Post
+  while-all c =
       let r = c .before .before in let q = r .before .before .before .before .before in let y = q .before .before in
       let u = y .before .before .before in let v = u .before .before .before .before .before in let x = v .before .before in
-      let w = x .before .before .before in let s = w .before .before .before .before .before in
-      rw (while-text (s .pre .1 .0) (s .pre .1 .1) (x .first-at .ensures) (y .second-at .ensures) (s .pre .1 .3)) (put-more (put-more (put-more (put-more (w .put-bytes .ensures) (v .put-tree .ensures)) (u .put-bytes2 .ensures)) (q .put-tree2 .ensures)) (r .put-bytes3 .ensures))
+      let w = x .before .before .before in let (m, (ok, h, room, e, sizes)) = w .before .before .before .before .before .pre in
+      rw (while-text ok h (x .first-at .ensures) (y .second-at .ensures) e) (put-more (put-more (put-more (put-more (w .put-bytes .ensures) (v .put-tree .ensures)) (u .put-bytes2 .ensures)) (q .put-tree2 .ensures)) (r .put-bytes3 .ensures))
 
 -- ---- a conditional
 
@@ -221,59 +216,65 @@ module _ (t : ℕ) where
 
   if-word : put-if-lts.Need-put-bytes-requires if-claims (put-if-at t) put-if.Post
   if-word c κs =
-      let s = c .before .before .before .before in
-      omega (arith, simp length-append at (ap length (if-text (s .pre .1 .0) (s .pre .1 .1) refl refl refl (s .pre .1 .3))), s .pre .1 .2)
+      let (m, (ok, h, room, e, sizes)) = c .before .before .before .before .pre in
+      omega (arith, simp length-append at (ap length (if-text ok h refl refl refl e)))
 
   if-first : put-if-lts.Need-put-tree-requires if-claims (put-if-at t) put-if.Post
   if-first c κs =
-      let x = c .before in let w = x .before .before .before in let s = w .before .before .before .before .before in
-      let d = w .put-bytes .ensures in
-      let l = simp length-append at (ap length (if-text (s .pre .1 .0) (s .pre .1 .1) (x .first-at .ensures) refl refl (s .pre .1 .3))) in
-      let j = children (s .pre .1 .0) (s .pre .1 .1) (s .pre .1 .3) in
-      (omega (arith, j .0, x .first-at .ensures, s .pre .0), (s .pre .1 .0, omega (arith, j .0, x .first-at .ensures, s .pre .1 .1), omega (arith, l, d .next, kept d, s .pre .1 .2), s .pre .1 .4))
+      let x = c .before in let w = x .before .before .before in let (m, (ok, h, room, e, sizes)) = w .before .before .before .before .before .pre in
+      let p = x .first-at .ensures in let j = children ok h e in let l = simp length-append at (ap length (if-text ok h p refl refl e)) in
+      (omega arith, (ok, omega arith, omega (arith, kept (w .put-bytes .ensures)), sizes))
 
   if-second-word : put-if-lts.Need-put-bytes-requires-2 if-claims (put-if-at t) put-if.Post
   if-second-word c κs =
       let v = c .before .before .before .before in let x = v .before .before in let w = x .before .before .before in
-      let s = w .before .before .before .before .before in let d = put-more (w .put-bytes .ensures) (v .put-tree .ensures) in
-      let l = simp length-append at (ap length (if-text (s .pre .1 .0) (s .pre .1 .1) (x .first-at .ensures) refl refl (s .pre .1 .3))) in
-      omega (arith, l, d .next, kept d, s .pre .1 .2)
+      let (m, (ok, h, room, e, sizes)) = w .before .before .before .before .before .pre in
+      let d = put-more (w .put-bytes .ensures) (v .put-tree .ensures) in
+      let l = simp length-append at (ap length (if-text ok h (x .first-at .ensures) refl refl e)) in
+      omega (arith, kept d)
 
   if-second : put-if-lts.Need-put-tree-requires-2 if-claims (put-if-at t) put-if.Post
   if-second c κs =
       let y = c .before in let u = y .before .before .before in let v = u .before .before .before .before .before in let x = v .before .before in
-      let w = x .before .before .before in let s = w .before .before .before .before .before in
+      let w = x .before .before .before in let (m, (ok, h, room, e, sizes)) = w .before .before .before .before .before .pre in
+      let p = y .second-at .ensures in let j = children ok h e in
       let d = put-more (put-more (w .put-bytes .ensures) (v .put-tree .ensures)) (u .put-bytes2 .ensures) in
-      let l = simp length-append at (ap length (if-text (s .pre .1 .0) (s .pre .1 .1) (x .first-at .ensures) (y .second-at .ensures) refl (s .pre .1 .3))) in
-      let j = children (s .pre .1 .0) (s .pre .1 .1) (s .pre .1 .3) in
-      (omega (arith, j .1, y .second-at .ensures, s .pre .0), (s .pre .1 .0, omega (arith, j .1, y .second-at .ensures, s .pre .1 .1), omega (arith, l, d .next, kept d, s .pre .1 .2), s .pre .1 .4))
+      let l = simp length-append at (ap length (if-text ok h (x .first-at .ensures) p refl e)) in
+      (omega arith, (ok, omega arith, omega (arith, kept d), sizes))
 
   if-third-word : put-if-lts.Need-put-bytes-requires-3 if-claims (put-if-at t) put-if.Post
   if-third-word c κs =
       let q = c .before .before .before .before in let y = q .before .before in let u = y .before .before .before in
       let v = u .before .before .before .before .before in let x = v .before .before in let w = x .before .before .before in
-      let s = w .before .before .before .before .before in
+      let (m, (ok, h, room, e, sizes)) = w .before .before .before .before .before .pre in
       let d = put-more (put-more (put-more (w .put-bytes .ensures) (v .put-tree .ensures)) (u .put-bytes2 .ensures)) (q .put-tree2 .ensures) in
-      let l = simp length-append at (ap length (if-text (s .pre .1 .0) (s .pre .1 .1) (x .first-at .ensures) (y .second-at .ensures) refl (s .pre .1 .3))) in
-      omega (arith, l, d .next, kept d, s .pre .1 .2)
+      let l = simp length-append at (ap length (if-text ok h (x .first-at .ensures) (y .second-at .ensures) refl e)) in
+      omega (arith, kept d)
+
+  if-third-read : put-if-lts.Need-third-at-requires if-claims (put-if-at t) put-if.Post
+  if-third-read c κs =
+      let r = c .before .before in let q = r .before .before .before .before .before in let y = q .before .before in
+      let u = y .before .before .before in let v = u .before .before .before .before .before in let x = v .before .before in
+      let w = x .before .before .before in let (m, (ok, h, room, e, sizes)) = w .before .before .before .before .before .pre in
+      may-read ok sizes h
 
   if-third : put-if-lts.Need-put-closed-requires if-claims (put-if-at t) put-if.Post
   if-third c κs =
       let n = c .before in let r = n .before .before .before in let q = r .before .before .before .before .before in let y = q .before .before in
       let u = y .before .before .before in let v = u .before .before .before .before .before in let x = v .before .before in
-      let w = x .before .before .before in let s = w .before .before .before .before .before in
+      let w = x .before .before .before in let (m, (ok, h, room, e, sizes)) = w .before .before .before .before .before .pre in
+      let p = n .third-at .ensures in let j = children ok h e in
       let d = put-more (put-more (put-more (put-more (w .put-bytes .ensures) (v .put-tree .ensures)) (u .put-bytes2 .ensures)) (q .put-tree2 .ensures)) (r .put-bytes3 .ensures) in
-      let all = if-text (s .pre .1 .0) (s .pre .1 .1) (x .first-at .ensures) (y .second-at .ensures) (n .third-at .ensures) (s .pre .1 .3) in
-      let j = children (s .pre .1 .0) (s .pre .1 .1) (s .pre .1 .3) in
-      (omega (arith, j .2, n .third-at .ensures, s .pre .0), (s .pre .1 .0, omega (arith, j .2, n .third-at .ensures, s .pre .1 .1), room-rest (textAt (now (s .args .b)) (n .third-at .result) ++ bytes ")") d (rw all at (s .pre .1 .2)), s .pre .1 .4))
+      let last = textAt (now (w .before .before .before .before .before .args .b)) (n .third-at .result) ++ bytes ")" in
+      (omega arith, (ok, omega arith, room-rest last d (rw (if-text ok h (x .first-at .ensures) (y .second-at .ensures) p e) at room), sizes))
 
-  all-of-if : put-if-lts.Need-returns if-claims (put-if-at t) put-if.Post
-  all-of-if c =
-      let m = c .before .before in let n = m .before .before in let r = n .before .before .before in
+  if-all : put-if-lts.Need-returns if-claims (put-if-at t) put-if.Post
+  if-all c =
+      let o = c .before .before in let n = o .before .before in let r = n .before .before .before in
       let q = r .before .before .before .before .before in let y = q .before .before in let u = y .before .before .before in
       let v = u .before .before .before .before .before in let x = v .before .before in let w = x .before .before .before in
-      let s = w .before .before .before .before .before in
-      rw (if-text (s .pre .1 .0) (s .pre .1 .1) (x .first-at .ensures) (y .second-at .ensures) (n .third-at .ensures) (s .pre .1 .3)) (put-more (put-more (put-more (put-more (put-more (w .put-bytes .ensures) (v .put-tree .ensures)) (u .put-bytes2 .ensures)) (q .put-tree2 .ensures)) (r .put-bytes3 .ensures)) (m .put-closed .ensures))
+      let (m, (ok, h, room, e, sizes)) = w .before .before .before .before .before .pre in
+      rw (if-text ok h (x .first-at .ensures) (y .second-at .ensures) (n .third-at .ensures) e) (put-more (put-more (put-more (put-more (put-more (w .put-bytes .ensures) (v .put-tree .ensures)) (u .put-bytes2 .ensures)) (q .put-tree2 .ensures)) (r .put-bytes3 .ensures)) (o .put-closed .ensures))
 
 -- ---- the whole node
 
@@ -317,174 +318,180 @@ module _ (t : ℕ) where
   integer-room : put-tree-lts.Need-put-number-requires tree-claims (put-tree-at t) put-tree.Post
   unfolding text
   integer-room c κs =
-      let n = c .before in let k = n .before in let g = k .before .before in let s = g .before .before .before in
-      let e = toZ-ofZ {w = w32} (record { sfits = n .integer-at .ok }) ∙ n .integer-at .ensures in
-      rw e (rw (form-text (s .pre .1 .0) (s .pre .1 .1) (form g (k .enum-told .given .1))) at (s .pre .1 .2))
+      let a = c .before in let k = a .before in let g = k .before .before in let (m, (ok, h, room, sizes)) = g .before .before .before .pre in
+      let e = form g (k .enum-told .given .1) in
+      rw (toZ-ofZ {w = w32} (record { sfits = a .integer-at .ok }) ∙ a .integer-at .ensures) (rw (form-text ok h e) at room)
 
   integer : put-tree-lts.Need-returns tree-claims (put-tree-at t) put-tree.Post
   unfolding text
   integer c =
-      let p = c .before .before in let n = p .before .before in let k = n .before in let g = k .before .before in
-      let s = g .before .before .before in let e = toZ-ofZ {w = w32} (record { sfits = n .integer-at .ok }) ∙ n .integer-at .ensures in
-      rw (form-text (s .pre .1 .0) (s .pre .1 .1) (form g (k .enum-told .given .1))) (rw e at (p .put-number .ensures))
+      let p = c .before .before in let a = p .before .before in let k = a .before in let g = k .before .before in
+      let (m, (ok, h, room, sizes)) = g .before .before .before .pre in let e = form g (k .enum-told .given .1) in
+      rw (form-text ok h e) (rw (toZ-ofZ {w = w32} (record { sfits = a .integer-at .ok }) ∙ a .integer-at .ensures) at (p .put-number .ensures))
 
   boolean-room : put-tree-lts.Need-put-truth-requires tree-claims (put-tree-at t) put-tree.Post
   unfolding text
   boolean-room c κs =
-      let a = c .before in let k = a .before in let g = k .before .before in let s = g .before .before .before in
-      rw (a .arg-at .ensures) (rw (form-text (s .pre .1 .0) (s .pre .1 .1) (form g (k .enum-told2 .given .1))) at (s .pre .1 .2))
+      let a = c .before in let k = a .before in let g = k .before .before in let (m, (ok, h, room, sizes)) = g .before .before .before .pre in
+      let e = form g (k .enum-told2 .given .1) in
+      rw (a .arg-at .ensures) (rw (form-text ok h e) at room)
 
   boolean : put-tree-lts.Need-returns-2 tree-claims (put-tree-at t) put-tree.Post
   unfolding text
   boolean c =
       let p = c .before .before in let a = p .before .before in let k = a .before in let g = k .before .before in
-      let s = g .before .before .before in
-      rw (form-text (s .pre .1 .0) (s .pre .1 .1) (form g (k .enum-told2 .given .1))) (rw (a .arg-at .ensures) at (p .put-truth .ensures))
-
-  plus-first : put-tree-lts.Need-put-opened-requires tree-claims (put-tree-at t) put-tree.Post
-  plus-first c κs =
-      let x = c .before in let k = x .before in let g = k .before .before in let s = g .before .before .before in
-      let l = simp length-append at (ap length (plus-text (s .pre .1 .0) (s .pre .1 .1) (x .first-at .ensures) refl (form g (k .enum-told3 .given .1)))) in
-      let j = children (s .pre .1 .0) (s .pre .1 .1) (form g (k .enum-told3 .given .1)) in
-      (omega (arith, j .0, x .first-at .ensures, s .pre .0), (s .pre .1 .0, omega (arith, j .0, x .first-at .ensures, s .pre .1 .1), omega (arith, l, s .pre .1 .2), s .pre .1 .3))
-
-  plus-sign : put-tree-lts.Need-put-bytes-requires tree-claims (put-tree-at t) put-tree.Post
-  plus-sign c κs =
-      let w = c .before .before .before .before in let x = w .before .before in let k = x .before in let g = k .before .before in
-      let s = g .before .before .before in let d = w .put-opened .ensures in
-      let l = simp length-append at (ap length (plus-text (s .pre .1 .0) (s .pre .1 .1) (x .first-at .ensures) refl (form g (k .enum-told3 .given .1)))) in
-      omega (arith, l, d .next, kept d, s .pre .1 .2)
-
-  plus-second : put-tree-lts.Need-put-closed-requires tree-claims (put-tree-at t) put-tree.Post
-  plus-second c κs =
-      let y = c .before in let u = y .before .before .before in let w = u .before .before .before .before .before in let x = w .before .before in
-      let k = x .before in let g = k .before .before in let s = g .before .before .before in
-      let d = put-more (w .put-opened .ensures) (u .put-bytes .ensures) in
-      let all = plus-text (s .pre .1 .0) (s .pre .1 .1) (x .first-at .ensures) (y .second-at .ensures) (form g (k .enum-told3 .given .1)) in
-      let j = children (s .pre .1 .0) (s .pre .1 .1) (form g (k .enum-told3 .given .1)) in
-      (omega (arith, j .1, y .second-at .ensures, s .pre .0), (s .pre .1 .0, omega (arith, j .1, y .second-at .ensures, s .pre .1 .1), room-rest (textAt (now (s .args .b)) (y .second-at .result) ++ bytes ")") d (rw all at (s .pre .1 .2)), s .pre .1 .3))
-
-  plus : put-tree-lts.Need-returns-3 tree-claims (put-tree-at t) put-tree.Post
-  plus c =
-      let v = c .before .before in let y = v .before .before in let u = y .before .before .before in
-      let w = u .before .before .before .before .before in let x = w .before .before in let k = x .before in let g = k .before .before in
-      let s = g .before .before .before in
-      rw (plus-text (s .pre .1 .0) (s .pre .1 .1) (x .first-at .ensures) (y .second-at .ensures) (form g (k .enum-told3 .given .1))) (put-more (put-more (w .put-opened .ensures) (u .put-bytes .ensures)) (v .put-closed .ensures))
-
-  geq-first : put-tree-lts.Need-put-opened-requires-2 tree-claims (put-tree-at t) put-tree.Post
-  geq-first c κs =
-      let x = c .before in let k = x .before in let g = k .before .before in let s = g .before .before .before in
-      let l = simp length-append at (ap length (geq-text (s .pre .1 .0) (s .pre .1 .1) (x .first-at2 .ensures) refl (form g (k .enum-told4 .given .1)))) in
-      let j = children (s .pre .1 .0) (s .pre .1 .1) (form g (k .enum-told4 .given .1)) in
-      (omega (arith, j .0, x .first-at2 .ensures, s .pre .0), (s .pre .1 .0, omega (arith, j .0, x .first-at2 .ensures, s .pre .1 .1), omega (arith, l, s .pre .1 .2), s .pre .1 .3))
-
-  geq-sign : put-tree-lts.Need-put-bytes-requires-2 tree-claims (put-tree-at t) put-tree.Post
-  geq-sign c κs =
-      let w = c .before .before .before .before in let x = w .before .before in let k = x .before in let g = k .before .before in
-      let s = g .before .before .before in let d = w .put-opened2 .ensures in
-      let l = simp length-append at (ap length (geq-text (s .pre .1 .0) (s .pre .1 .1) (x .first-at2 .ensures) refl (form g (k .enum-told4 .given .1)))) in
-      omega (arith, l, d .next, kept d, s .pre .1 .2)
-
-  geq-second : put-tree-lts.Need-put-closed-requires-2 tree-claims (put-tree-at t) put-tree.Post
-  geq-second c κs =
-      let y = c .before in let u = y .before .before .before in let w = u .before .before .before .before .before in let x = w .before .before in
-      let k = x .before in let g = k .before .before in let s = g .before .before .before in
-      let d = put-more (w .put-opened2 .ensures) (u .put-bytes2 .ensures) in
-      let all = geq-text (s .pre .1 .0) (s .pre .1 .1) (x .first-at2 .ensures) (y .second-at2 .ensures) (form g (k .enum-told4 .given .1)) in
-      let j = children (s .pre .1 .0) (s .pre .1 .1) (form g (k .enum-told4 .given .1)) in
-      (omega (arith, j .1, y .second-at2 .ensures, s .pre .0), (s .pre .1 .0, omega (arith, j .1, y .second-at2 .ensures, s .pre .1 .1), room-rest (textAt (now (s .args .b)) (y .second-at2 .result) ++ bytes ")") d (rw all at (s .pre .1 .2)), s .pre .1 .3))
-
-  geq : put-tree-lts.Need-returns-4 tree-claims (put-tree-at t) put-tree.Post
-  geq c =
-      let v = c .before .before in let y = v .before .before in let u = y .before .before .before in
-      let w = u .before .before .before .before .before in let x = w .before .before in let k = x .before in let g = k .before .before in
-      let s = g .before .before .before in
-      rw (geq-text (s .pre .1 .0) (s .pre .1 .1) (x .first-at2 .ensures) (y .second-at2 .ensures) (form g (k .enum-told4 .given .1))) (put-more (put-more (w .put-opened2 .ensures) (u .put-bytes2 .ensures)) (v .put-closed2 .ensures))
-
-  seq-first : put-tree-lts.Need-put-opened-requires-3 tree-claims (put-tree-at t) put-tree.Post
-  seq-first c κs =
-      let x = c .before in let k = x .before in let g = k .before .before in let s = g .before .before .before in
-      let l = simp length-append at (ap length (seq-text (s .pre .1 .0) (s .pre .1 .1) (x .first-at4 .ensures) refl (form g (k .enum-told9 .given .1)))) in
-      let j = children (s .pre .1 .0) (s .pre .1 .1) (form g (k .enum-told9 .given .1)) in
-      (omega (arith, j .0, x .first-at4 .ensures, s .pre .0), (s .pre .1 .0, omega (arith, j .0, x .first-at4 .ensures, s .pre .1 .1), omega (arith, l, s .pre .1 .2), s .pre .1 .3))
-
-  seq-sign : put-tree-lts.Need-put-bytes-requires-4 tree-claims (put-tree-at t) put-tree.Post
-  seq-sign c κs =
-      let w = c .before .before .before .before in let x = w .before .before in let k = x .before in let g = k .before .before in
-      let s = g .before .before .before in let d = w .put-opened3 .ensures in
-      let l = simp length-append at (ap length (seq-text (s .pre .1 .0) (s .pre .1 .1) (x .first-at4 .ensures) refl (form g (k .enum-told9 .given .1)))) in
-      omega (arith, l, d .next, kept d, s .pre .1 .2)
-
-  seq-second : put-tree-lts.Need-put-closed-requires-4 tree-claims (put-tree-at t) put-tree.Post
-  seq-second c κs =
-      let y = c .before in let u = y .before .before .before in let w = u .before .before .before .before .before in let x = w .before .before in
-      let k = x .before in let g = k .before .before in let s = g .before .before .before in
-      let d = put-more (w .put-opened3 .ensures) (u .put-bytes4 .ensures) in
-      let all = seq-text (s .pre .1 .0) (s .pre .1 .1) (x .first-at4 .ensures) (y .second-at3 .ensures) (form g (k .enum-told9 .given .1)) in
-      let j = children (s .pre .1 .0) (s .pre .1 .1) (form g (k .enum-told9 .given .1)) in
-      (omega (arith, j .1, y .second-at3 .ensures, s .pre .0), (s .pre .1 .0, omega (arith, j .1, y .second-at3 .ensures, s .pre .1 .1), room-rest (textAt (now (s .args .b)) (y .second-at3 .result) ++ bytes ")") d (rw all at (s .pre .1 .2)), s .pre .1 .3))
-
-  seq : put-tree-lts.Need-returns-9 tree-claims (put-tree-at t) put-tree.Post
-  seq c =
-      let v = c .before .before in let y = v .before .before in let u = y .before .before .before in
-      let w = u .before .before .before .before .before in let x = w .before .before in let k = x .before in let g = k .before .before in
-      let s = g .before .before .before in
-      rw (seq-text (s .pre .1 .0) (s .pre .1 .1) (x .first-at4 .ensures) (y .second-at3 .ensures) (form g (k .enum-told9 .given .1))) (put-more (put-more (w .put-opened3 .ensures) (u .put-bytes4 .ensures)) (v .put-closed4 .ensures))
-
-  assign-location : put-tree-lts.Need-put-assigned-requires tree-claims (put-tree-at t) put-tree.Post
-  assign-location c κs =
-      let a = c .before in let k = a .before in let g = k .before .before in let s = g .before .before .before in
-      let p = bytes "(" ++ location (a .arg-at2 .result) ++ bytes " := " in
-      room-first (s .args .at) p _ (now (s .args .buf)) (rw (assign-text (s .pre .1 .0) (s .pre .1 .1) refl (a .arg-at2 .ensures) (form g (k .enum-told6 .given .1))) at (s .pre .1 .2))
-
-  assign-first : put-tree-lts.Need-put-closed-requires-3 tree-claims (put-tree-at t) put-tree.Post
-  assign-first c κs =
-      let x = c .before in let w = x .before .before .before in let a = w .before .before in let k = a .before in let g = k .before .before in
-      let s = g .before .before .before in let d = w .put-assigned .ensures in
-      let all = assign-text (s .pre .1 .0) (s .pre .1 .1) (x .first-at3 .ensures) (a .arg-at2 .ensures) (form g (k .enum-told6 .given .1)) in
-      let j = children (s .pre .1 .0) (s .pre .1 .1) (form g (k .enum-told6 .given .1)) in
-      (omega (arith, j, x .first-at3 .ensures, s .pre .0), (s .pre .1 .0, omega (arith, j, x .first-at3 .ensures, s .pre .1 .1), room-rest (textAt (now (s .args .b)) (x .first-at3 .result) ++ bytes ")") d (rw all at (s .pre .1 .2)), s .pre .1 .3))
-
-  assign : put-tree-lts.Need-returns-6 tree-claims (put-tree-at t) put-tree.Post
-  assign c =
-      let v = c .before .before in let x = v .before .before in let w = x .before .before .before in let a = w .before .before in
-      let k = a .before in let g = k .before .before in let s = g .before .before .before in
-      rw (assign-text (s .pre .1 .0) (s .pre .1 .1) (x .first-at3 .ensures) (a .arg-at2 .ensures) (form g (k .enum-told6 .given .1))) (put-more (w .put-assigned .ensures) (v .put-closed3 .ensures))
+      let (m, (ok, h, room, sizes)) = g .before .before .before .pre in let e = form g (k .enum-told2 .given .1) in
+      rw (form-text ok h e) (rw (a .arg-at .ensures) at (p .put-truth .ensures))
 
   deref-room : put-tree-lts.Need-put-deref-requires tree-claims (put-tree-at t) put-tree.Post
   unfolding text
   deref-room c κs =
-      let a = c .before in let k = a .before in let g = k .before .before in let s = g .before .before .before in
-      rw (a .arg-at3 .ensures) (rw (form-text (s .pre .1 .0) (s .pre .1 .1) (form g (k .enum-told7 .given .1))) at (s .pre .1 .2))
+      let a = c .before in let k = a .before in let g = k .before .before in let (m, (ok, h, room, sizes)) = g .before .before .before .pre in
+      let e = form g (k .enum-told7 .given .1) in
+      rw (a .arg-at3 .ensures) (rw (form-text ok h e) at room)
 
   deref : put-tree-lts.Need-returns-7 tree-claims (put-tree-at t) put-tree.Post
   unfolding text
   deref c =
       let p = c .before .before in let a = p .before .before in let k = a .before in let g = k .before .before in
-      let s = g .before .before .before in
-      rw (form-text (s .pre .1 .0) (s .pre .1 .1) (form g (k .enum-told7 .given .1))) (rw (a .arg-at3 .ensures) at (p .put-deref .ensures))
+      let (m, (ok, h, room, sizes)) = g .before .before .before .pre in let e = form g (k .enum-told7 .given .1) in
+      rw (form-text ok h e) (rw (a .arg-at3 .ensures) at (p .put-deref .ensures))
 
   skip-room : put-tree-lts.Need-put-bytes-requires-3 tree-claims (put-tree-at t) put-tree.Post
   unfolding text
   skip-room c κs =
-      let k = c .before .before in let g = k .before .before in let s = g .before .before .before in
-      rw (form-text (s .pre .1 .0) (s .pre .1 .1) (form g (k .enum-told8 .given .1))) at (s .pre .1 .2)
+      let k = c .before .before in let g = k .before .before in let (m, (ok, h, room, sizes)) = g .before .before .before .pre in
+      let e = form g (k .enum-told8 .given .1) in
+      rw (form-text ok h e) at room
 
   skip : put-tree-lts.Need-returns-8 tree-claims (put-tree-at t) put-tree.Post
   unfolding text
   skip c =
-      let p = c .before .before in let k = p .before .before .before in let g = k .before .before in let s = g .before .before .before in
-      rw (form-text (s .pre .1 .0) (s .pre .1 .1) (form g (k .enum-told8 .given .1))) (p .put-bytes3 .ensures)
+      let p = c .before .before in let k = p .before .before .before in let g = k .before .before in
+      let (m, (ok, h, room, sizes)) = g .before .before .before .pre in let e = form g (k .enum-told8 .given .1) in
+      rw (form-text ok h e) (p .put-bytes3 .ensures)
+
+  plus-first : put-tree-lts.Need-put-opened-requires tree-claims (put-tree-at t) put-tree.Post
+  plus-first c κs =
+      let x = c .before in let k = x .before in let g = k .before .before in let (m, (ok, h, room, sizes)) = g .before .before .before .pre in
+      let e = form g (k .enum-told3 .given .1) in let p = x .first-at .ensures in let j = children ok h e in
+      let l = simp length-append at (ap length (plus-text ok h p refl e)) in
+      (omega arith, (ok, omega arith, omega arith, sizes))
+
+  plus-sign : put-tree-lts.Need-put-bytes-requires tree-claims (put-tree-at t) put-tree.Post
+  plus-sign c κs =
+      let w = c .before .before .before .before in let x = w .before .before in let k = x .before in let g = k .before .before in
+      let (m, (ok, h, room, sizes)) = g .before .before .before .pre in let e = form g (k .enum-told3 .given .1) in
+      let l = simp length-append at (ap length (plus-text ok h (x .first-at .ensures) refl e)) in
+      omega (arith, kept (w .put-opened .ensures))
+
+  plus-second : put-tree-lts.Need-put-closed-requires tree-claims (put-tree-at t) put-tree.Post
+  plus-second c κs =
+      let y = c .before in let u = y .before .before .before in let w = u .before .before .before .before .before in let x = w .before .before in
+      let k = x .before in let g = k .before .before in let (m, (ok, h, room, sizes)) = g .before .before .before .pre in
+      let e = form g (k .enum-told3 .given .1) in let p = y .second-at .ensures in let j = children ok h e in
+      let d = put-more (w .put-opened .ensures) (u .put-bytes .ensures) in
+      let last = textAt (now (g .before .before .before .args .b)) (y .second-at .result) ++ bytes ")" in
+      (omega arith, (ok, omega arith, room-rest last d (rw (plus-text ok h (x .first-at .ensures) p e) at room), sizes))
+
+  plus : put-tree-lts.Need-returns-3 tree-claims (put-tree-at t) put-tree.Post
+  plus c =
+      let v = c .before .before in let y = v .before .before in let u = y .before .before .before in
+      let w = u .before .before .before .before .before in let x = w .before .before in let k = x .before in let g = k .before .before in
+      let (m, (ok, h, room, sizes)) = g .before .before .before .pre in let e = form g (k .enum-told3 .given .1) in
+      rw (plus-text ok h (x .first-at .ensures) (y .second-at .ensures) e) (put-more (put-more (w .put-opened .ensures) (u .put-bytes .ensures)) (v .put-closed .ensures))
+
+  geq-first : put-tree-lts.Need-put-opened-requires-2 tree-claims (put-tree-at t) put-tree.Post
+  geq-first c κs =
+      let x = c .before in let k = x .before in let g = k .before .before in let (m, (ok, h, room, sizes)) = g .before .before .before .pre in
+      let e = form g (k .enum-told4 .given .1) in let p = x .first-at2 .ensures in let j = children ok h e in
+      let l = simp length-append at (ap length (geq-text ok h p refl e)) in
+      (omega arith, (ok, omega arith, omega arith, sizes))
+
+  geq-sign : put-tree-lts.Need-put-bytes-requires-2 tree-claims (put-tree-at t) put-tree.Post
+  geq-sign c κs =
+      let w = c .before .before .before .before in let x = w .before .before in let k = x .before in let g = k .before .before in
+      let (m, (ok, h, room, sizes)) = g .before .before .before .pre in let e = form g (k .enum-told4 .given .1) in
+      let l = simp length-append at (ap length (geq-text ok h (x .first-at2 .ensures) refl e)) in
+      omega (arith, kept (w .put-opened2 .ensures))
+
+  geq-second : put-tree-lts.Need-put-closed-requires-2 tree-claims (put-tree-at t) put-tree.Post
+  geq-second c κs =
+      let y = c .before in let u = y .before .before .before in let w = u .before .before .before .before .before in let x = w .before .before in
+      let k = x .before in let g = k .before .before in let (m, (ok, h, room, sizes)) = g .before .before .before .pre in
+      let e = form g (k .enum-told4 .given .1) in let p = y .second-at2 .ensures in let j = children ok h e in
+      let d = put-more (w .put-opened2 .ensures) (u .put-bytes2 .ensures) in
+      let last = textAt (now (g .before .before .before .args .b)) (y .second-at2 .result) ++ bytes ")" in
+      (omega arith, (ok, omega arith, room-rest last d (rw (geq-text ok h (x .first-at2 .ensures) p e) at room), sizes))
+
+  geq : put-tree-lts.Need-returns-4 tree-claims (put-tree-at t) put-tree.Post
+  geq c =
+      let v = c .before .before in let y = v .before .before in let u = y .before .before .before in
+      let w = u .before .before .before .before .before in let x = w .before .before in let k = x .before in let g = k .before .before in
+      let (m, (ok, h, room, sizes)) = g .before .before .before .pre in let e = form g (k .enum-told4 .given .1) in
+      rw (geq-text ok h (x .first-at2 .ensures) (y .second-at2 .ensures) e) (put-more (put-more (w .put-opened2 .ensures) (u .put-bytes2 .ensures)) (v .put-closed2 .ensures))
+
+  seq-first : put-tree-lts.Need-put-opened-requires-3 tree-claims (put-tree-at t) put-tree.Post
+  seq-first c κs =
+      let x = c .before in let k = x .before in let g = k .before .before in let (m, (ok, h, room, sizes)) = g .before .before .before .pre in
+      let e = form g (k .enum-told9 .given .1) in let p = x .first-at4 .ensures in let j = children ok h e in
+      let l = simp length-append at (ap length (seq-text ok h p refl e)) in
+      (omega arith, (ok, omega arith, omega arith, sizes))
+
+  seq-sign : put-tree-lts.Need-put-bytes-requires-4 tree-claims (put-tree-at t) put-tree.Post
+  seq-sign c κs =
+      let w = c .before .before .before .before in let x = w .before .before in let k = x .before in let g = k .before .before in
+      let (m, (ok, h, room, sizes)) = g .before .before .before .pre in let e = form g (k .enum-told9 .given .1) in
+      let l = simp length-append at (ap length (seq-text ok h (x .first-at4 .ensures) refl e)) in
+      omega (arith, kept (w .put-opened3 .ensures))
+
+  seq-second : put-tree-lts.Need-put-closed-requires-4 tree-claims (put-tree-at t) put-tree.Post
+  seq-second c κs =
+      let y = c .before in let u = y .before .before .before in let w = u .before .before .before .before .before in let x = w .before .before in
+      let k = x .before in let g = k .before .before in let (m, (ok, h, room, sizes)) = g .before .before .before .pre in
+      let e = form g (k .enum-told9 .given .1) in let p = y .second-at3 .ensures in let j = children ok h e in
+      let d = put-more (w .put-opened3 .ensures) (u .put-bytes4 .ensures) in
+      let last = textAt (now (g .before .before .before .args .b)) (y .second-at3 .result) ++ bytes ")" in
+      (omega arith, (ok, omega arith, room-rest last d (rw (seq-text ok h (x .first-at4 .ensures) p e) at room), sizes))
+
+  seq : put-tree-lts.Need-returns-9 tree-claims (put-tree-at t) put-tree.Post
+  seq c =
+      let v = c .before .before in let y = v .before .before in let u = y .before .before .before in
+      let w = u .before .before .before .before .before in let x = w .before .before in let k = x .before in let g = k .before .before in
+      let (m, (ok, h, room, sizes)) = g .before .before .before .pre in let e = form g (k .enum-told9 .given .1) in
+      rw (seq-text ok h (x .first-at4 .ensures) (y .second-at3 .ensures) e) (put-more (put-more (w .put-opened3 .ensures) (u .put-bytes4 .ensures)) (v .put-closed4 .ensures))
+
+  assign-location : put-tree-lts.Need-put-assigned-requires tree-claims (put-tree-at t) put-tree.Post
+  assign-location c κs =
+      let a = c .before in let k = a .before in let g = k .before .before in let (m, (ok, h, room, sizes)) = g .before .before .before .pre in
+      let e = form g (k .enum-told6 .given .1) in let s = g .before .before .before in
+      let p = bytes "(" ++ location (a .arg-at2 .result) ++ bytes " := " in
+      room-first (s .args .at) p _ (now (s .args .buf)) (rw (assign-text ok h refl (a .arg-at2 .ensures) e) at room)
+
+  assign-value : put-tree-lts.Need-put-closed-requires-3 tree-claims (put-tree-at t) put-tree.Post
+  assign-value c κs =
+      let x = c .before in let w = x .before .before .before in let a = w .before .before in let k = a .before in let g = k .before .before in
+      let (m, (ok, h, room, sizes)) = g .before .before .before .pre in let e = form g (k .enum-told6 .given .1) in let p = x .first-at3 .ensures in
+      let j = children ok h e in let last = textAt (now (g .before .before .before .args .b)) (x .first-at3 .result) ++ bytes ")" in
+      (omega arith, (ok, omega arith, room-rest last (w .put-assigned .ensures) (rw (assign-text ok h p (a .arg-at2 .ensures) e) at room), sizes))
+
+  assign : put-tree-lts.Need-returns-6 tree-claims (put-tree-at t) put-tree.Post
+  assign c =
+      let v = c .before .before in let x = v .before .before in let w = x .before .before .before in let a = w .before .before in let k = a .before in
+      let g = k .before .before in let (m, (ok, h, room, sizes)) = g .before .before .before .pre in let e = form g (k .enum-told6 .given .1) in
+      rw (assign-text ok h (x .first-at3 .ensures) (a .arg-at2 .ensures) e) (put-more (w .put-assigned .ensures) (v .put-closed3 .ensures))
 
   if-whole : put-tree-lts.Need-put-if-requires tree-claims (put-tree-at t) put-tree.Post
   if-whole c κs =
-      let k = c .before in let g = k .before .before in let s = g .before .before .before in
-      (omega (arith, s .pre .0), (s .pre .1 .0, s .pre .1 .1, s .pre .1 .2, form g (k .enum-told5 .given .1), s .pre .1 .3))
+      let k = c .before in let g = k .before .before in let (m, (ok, h, room, sizes)) = g .before .before .before .pre in
+      let e = form g (k .enum-told5 .given .1) in
+      (omega arith, (ok, h, room, e, sizes))
 
   while-whole : put-tree-lts.Need-put-while-requires tree-claims (put-tree-at t) put-tree.Post
   while-whole c κs =
-      let k = c .before in let g = k .before .before in let s = g .before .before .before in
-      (omega (arith, s .pre .0), (s .pre .1 .0, s .pre .1 .1, s .pre .1 .2, form g (k .enum-told10 .given .1), s .pre .1 .3))
+      let k = c .before in let g = k .before .before in let (m, (ok, h, room, sizes)) = g .before .before .before .pre in
+      let e = form g (k .enum-told10 .given .1) in
+      (omega arith, (ok, h, room, e, sizes))
 
 pub +put-closed+put-if+put-opened+put-tree+put-while-spec : {M : Type 1} → statement M
 +put-closed+put-if+put-opened+put-tree+put-while-spec =
@@ -493,10 +500,10 @@ pub +put-closed+put-if+put-opened+put-tree+put-while-spec : {M : Type 1} → sta
     (closed-claims t)
     (put-closed-at t)
     put-closed.Post
-    (node-closed t)
-    (bracket t)
+    (closed-node t)
+    (closed-bracket t)
     (λ c. search needs)
-    (all-closed t))
+    (closed t))
     (λ t. put-if-lts.spec
     (if-claims t)
     (put-if-at t)
@@ -511,10 +518,10 @@ pub +put-closed+put-if+put-opened+put-tree+put-while-spec : {M : Type 1} → sta
     (if-second t)
     (λ c. search needs)
     (if-third-word t)
-    (λ c κs. let s = c .before .before .before .before .before .before .before .before .before .before .before .before .before .before .before .before .before .before .before .before .before .before .before .before .before .before .before in may-read (s .pre .1 .0) (s .pre .1 .4) (s .pre .1 .1))
+    (if-third-read t)
     (if-third t)
     (λ c. search needs)
-    (all-of-if t))
+    (if-all t))
     (λ t. put-opened-lts.spec
     (opened-claims t)
     (put-opened-at t)
@@ -522,7 +529,7 @@ pub +put-closed+put-if+put-opened+put-tree+put-while-spec : {M : Type 1} → sta
     (λ c κs. search needs)
     (opened-node t)
     (λ c. search needs)
-    (all-opened t))
+    (opened t))
     (λ t. put-tree-lts.spec
     (tree-claims t)
     (put-tree-at t)
@@ -555,7 +562,7 @@ pub +put-closed+put-if+put-opened+put-tree+put-while-spec : {M : Type 1} → sta
     (λ c. search needs)
     (assign-location t)
     (λ c κs. search needs)
-    (assign-first t)
+    (assign-value t)
     (λ c. search needs)
     (λ c κs. search needs)
     (λ c. search needs)
@@ -609,4 +616,4 @@ pub +put-closed+put-if+put-opened+put-tree+put-while-spec : {M : Type 1} → sta
     (λ c. search needs)
     (while-third-word t)
     (λ c. search needs)
-    (all-of-while t))
+    (while-all t))
