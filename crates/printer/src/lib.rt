@@ -44,20 +44,8 @@ fn print_pages(
             return;
         }
         let m = page.machine;
-        page = tracer::fill_page(
-            b,
-            z,
-            tags,
-            nodes,
-            integers,
-            page.height,
-            m,
-            s,
-            fuel,
-            lengths,
-            buf,
-            0,
-        );
+        let h = page.height;
+        page = tracer::fill_page(b, z, tags, nodes, integers, h, m, s, fuel, lengths, buf, 0);
     }
 }
 

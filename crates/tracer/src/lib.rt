@@ -211,17 +211,15 @@ fn next_line(
     let m = stand.machine;
     let h = stand.height;
     if m.steps == steps {
-        let p = put_last(ending, m.steps, m.loops, buf, at);
         return Page {
-            at: p,
+            at: put_last(ending, m.steps, m.loops, buf, at),
             ended: true,
             height: h,
             machine: m,
         };
     }
-    let q = put_line(b, z, tags, nodes, integers, h, m, s, lengths, buf, at);
     Page {
-        at: q,
+        at: put_line(b, z, tags, nodes, integers, h, m, s, lengths, buf, at),
         ended: false,
         height: h,
         machine: m,
@@ -256,20 +254,9 @@ pub fn fill_page(
     let room = buf.len() - LINE;
     while (!page.ended) & (page.at <= room) {
         let m = page.machine;
-        page = next_line(
-            b,
-            z,
-            tags,
-            nodes,
-            integers,
-            page.height,
-            m,
-            s,
-            fuel,
-            lengths,
-            buf,
-            page.at,
-        );
+        let h = page.height;
+        let p = page.at;
+        page = next_line(b, z, tags, nodes, integers, h, m, s, fuel, lengths, buf, p);
     }
     page
 }
