@@ -1,6 +1,6 @@
 -- One node by its form: the lowest number by which its own rule fails and the type that the rule gives, from its children's types (by
 -- numbers, as `typeNo` has them), and what W and the two sets get from it.
-use Prim.Native.Nat.{ℕ, zero, suc}
+use Prim.Native.Nat.{ℕ}
 use mathlib.Core.Bool.{cond}
 use mathlib.Core.List.{List, []}
 use lib.Dec.{eqb, ltb}

@@ -1,5 +1,4 @@
 -- A typed expression reads and writes declared locations alone.
-use mathlib.Core.Path.{refl}
 use Rattle.l1.specs.Syntax.{Loc, Expr, Ty}
 use Rattle.l1.specs.Typing.{TypeEnv, _declares_, _⊢_∶_, t-int, t-bool, t-op+, t-op≥, t-if, t-assign, t-deref, t-skip, t-seq, t-while}
 use Rattle.l1.specs.Sets.{Use, reading, writing, by-deref, by-assign, uses}

@@ -1,6 +1,6 @@
 -- Two steps from one configuration are by one rule and lead to one expression and one store.
 use mathlib.Core.Path.{_≡_, refl, sym, ap, _∙_}
-use Rattle.l1.specs.Syntax.{Expr, int, bool, _‹_#_›_, if_then_else_, _:=_, _⨾_}
+use Rattle.l1.specs.Syntax.{Expr, int, bool}
 use Rattle.l1.specs.Store.{Store}
 use Rattle.l1.specs.Steps.{Rule, ⟨_∣_⟩⟶⟨_∣_⟩_, op+, op≥, op1, op2, deref, assign1, assign2, seq1, seq2, if1, if2, if3, while}
 use Rattle.l1.proofs.Values.{value-makes-no-step}

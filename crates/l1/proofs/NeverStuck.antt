@@ -1,14 +1,12 @@
 -- Demand 3, said of every moment of the run of a typed row: the type and the number of locations are kept, the entries outside the write set
 -- and those from m on are as at the start, and exactly one of value of its type, overflow at one node, and one step is there.
-use Prim.Native.Nat.{ℕ, _≤_, _<_}
+use Prim.Native.Nat.{ℕ, _≤_}
 use native.Mathlib.Omega.{arith}
 use mathlib.Core.Path.{_≡_}
 use lib.ListN.{length}
-use Rattle.l1.specs.Syntax.{Loc, Expr, Value, Ty}
+use Rattle.l1.specs.Syntax.{Loc, Expr, Ty}
 use Rattle.l1.specs.Store.{Store, lookup}
 use Rattle.l1.specs.Typing.{TypeEnv, _⊢_∶_}
-use Rattle.l1.specs.Steps.{Rule, ⟨_∣_⟩⟶⟨_∣_⟩_}
-use Rattle.l1.specs.Overflow.{_overflows-at_}
 use Rattle.l1.specs.Run.{Run}
 use Rattle.l1.specs.Measures.{working, limit}
 use Rattle.l1.specs.Sets.{writing, writes, _∈_}

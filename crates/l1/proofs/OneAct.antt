@@ -1,9 +1,8 @@
 -- At most one thing is next: the expression is a value, or a sum overflows at one node, or one step is made.
 use Prim.Native.Nat.{ℕ}
-use mathlib.Core.Path.{_≡_, refl, sym, ap}
+use mathlib.Core.Path.{_≡_, refl, ap}
 use Rattle.l1.specs.Syntax.{Expr}
 use Rattle.l1.specs.Store.{Store}
-use Rattle.l1.specs.Range.{OutOfRange}
 use Rattle.l1.specs.Steps.{Rule, ⟨_∣_⟩⟶⟨_∣_⟩_, op+, op≥, op1, op2, assign1, assign2, seq1, seq2, if1, if2, if3}
 use Rattle.l1.specs.Overflow.{_overflows-at_, over, over-op1, over-op2, over-assign2, over-seq2, over-if3}
 use Rattle.l1.specs.Next.{Act, overflows, steps, Does, does-end, does-overflow, does-step}

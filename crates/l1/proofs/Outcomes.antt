@@ -1,15 +1,15 @@
 -- The run with fuel: one answer at most, and for a typed row exactly one; T and K are the counts of the definition's own steps.
-use Prim.Native.Nat.{ℕ, zero, suc, _+_, _-_, _≤_, _<_}
+use Prim.Native.Nat.{ℕ, zero, suc, _+_, _-_, _≤_}
 use native.Mathlib.Nat.{zero-add, add-zero, suc-add, add-assoc}
 use native.Mathlib.Omega.{arith}
-use mathlib.Core.Path.{_≡_, refl, sym, ap}
+use mathlib.Core.Path.{_≡_, refl, ap}
 use Rattle.l1.specs.Syntax.{Expr, Value, Ty}
 use Rattle.l1.specs.Store.{Store}
 use Rattle.l1.specs.Typing.{TypeEnv, _⊢_∶_}
 use Rattle.l1.specs.Steps.{Rule, ⟨_∣_⟩⟶⟨_∣_⟩_}
 use Rattle.l1.specs.Overflow.{_overflows-at_}
 use Rattle.l1.specs.Run.{whiles, Run, stay, more, Outcome, value, overflow, fuel, Answer, answer, Yields, ends-value, ends-overflow, ends-fuel, goes-on}
-use Rattle.l1.specs.Next.{Does, does-end, does-overflow, does-step}
+use Rattle.l1.specs.Next.{does-end, does-overflow, does-step}
 use Rattle.l1.specs.Measures.{working, loops, limit}
 use Rattle.l1.proofs.Values.{value-makes-no-step, value-is-no-overflow}
 use Rattle.l1.proofs.Determinism.{determinism}

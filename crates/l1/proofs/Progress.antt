@@ -6,7 +6,7 @@ use mathlib.Core.Path.{_≡_, refl}
 use mathlib.Core.Bool.{true, false}
 use lib.IntN.{ℤ, _+ℤ_}
 use lib.ListN.{length}
-use Rattle.l1.specs.Syntax.{Op, plus, geq, Loc, Expr, int, _‹_#_›_, if_then_else_, _:=_, _⨾_, Value, v-int, v-bool, v-skip, Ty, tInt, tBool, tUnit}
+use Rattle.l1.specs.Syntax.{Op, plus, geq, Loc, Expr, int, _‹_#_›_, if_then_else_, _:=_, _⨾_, v-int, v-bool, v-skip, Ty, tInt, tBool, tUnit}
 use Rattle.l1.specs.Store.{Store, _∈dom_}
 use Rattle.l1.specs.Range.{InRange, OutOfRange}
 use Rattle.l1.specs.Typing.{TypeEnv, _⊢_∶_, t-int, t-bool, t-op+, t-op≥, t-if, t-assign, t-deref, t-skip, t-seq, t-while}

@@ -1,6 +1,6 @@
 -- The computed run is the run: whatever is yielded is computed, and of a typed row what is computed is yielded.
 use Prim.Native.Nat.{ℕ, zero, suc}
-use mathlib.Core.Path.{_≡_, refl, sym, _∙_}
+use mathlib.Core.Path.{_≡_, sym, _∙_}
 use mathlib.Core.Option.{some, Option·some-injective}
 use Rattle.l1.specs.Syntax.{Expr, Ty}
 use Rattle.l1.specs.Store.{Store}

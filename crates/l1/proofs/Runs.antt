@@ -1,5 +1,5 @@
 -- Steps in a row: a run keeps what a step keeps, two runs join, a run can be made one step longer at its end, and K ≤ T.
-use Prim.Native.Nat.{ℕ, suc, _+_, _≤_}
+use Prim.Native.Nat.{ℕ, _+_, _≤_}
 use native.Mathlib.Nat.{zero-add, add-zero, suc-add, add-assoc}
 use native.Mathlib.Omega.{arith}
 use mathlib.Core.Path.{_≡_, refl, _∙_}
@@ -9,7 +9,7 @@ use Rattle.l1.specs.Store.{Store, lookup}
 use Rattle.l1.specs.Typing.{TypeEnv, _⊢_∶_}
 use Rattle.l1.specs.Steps.{Rule, by-plus, by-geq, by-deref, by-assign, by-seq, by-if-true, by-if-false, by-while, ⟨_∣_⟩⟶⟨_∣_⟩_}
 use Rattle.l1.specs.Run.{whiles, Run, stay, more}
-use Rattle.l1.specs.Sets.{writes, _∈_, Use, uses, writing}
+use Rattle.l1.specs.Sets.{writes, _∈_, writing}
 use Rattle.l1.proofs.Preservation.{step-keeps-type, step-keeps-locations, step-keeps-uses, step-keeps-others}
 
 pub run-keeps-type : {Γ : TypeEnv} {U : Ty} {T K : ℕ} {e e′ : Expr} {s s′ : Store} → Run T K e s e′ s′ → Γ ⊢ e ∶ U → Γ ⊢ e′ ∶ U

@@ -3,7 +3,7 @@ use Prim.Native.Nat.{ℕ, zero, suc}
 use mathlib.Core.Bool.{cond}
 use mathlib.Core.List.{List, [], _∷_}
 use lib.Dec.{eqb, ltb}
-use Rattle.l1.specs.Syntax.{Op, plus, geq, Loc, Expr, int, bool, _‹_#_›_, if_then_else_, _:=_, !_, skip, _⨾_, while_do′_done, Ty, tInt, tBool, tUnit}
+use Rattle.l1.specs.Syntax.{plus, geq, Loc, Expr, int, bool, _‹_#_›_, if_then_else_, _:=_, !_, skip, _⨾_, while_do′_done, Ty, tInt, tBool, tUnit}
 use Rattle.l1.specs.Typing.{TypeEnv}
 use Rattle.l1.specs.Refused.{nodes, Verdict, typed, refused}
 

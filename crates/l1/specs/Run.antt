@@ -1,5 +1,5 @@
 -- 01, "The run": steps in a row with their counts T and K, and what a run with fuel yields.
-use Prim.Native.Nat.{ℕ, zero, suc, _+_}
+use Prim.Native.Nat.{ℕ, suc, _+_}
 use Rattle.l1.specs.Syntax.{Expr, Value}
 use Rattle.l1.specs.Store.{Store}
 use Rattle.l1.specs.Steps.{Rule, by-plus, by-geq, by-deref, by-assign, by-seq, by-if-true, by-if-false, by-while, ⟨_∣_⟩⟶⟨_∣_⟩_}

@@ -2,7 +2,7 @@
 use Prim.Native.Nat.{ℕ, _<_}
 use mathlib.Core.Bool.{Bool}
 use lib.IntN.{ℤ}
-use Rattle.l1.specs.Syntax.{Op, plus, geq, Loc, Expr, int, bool, _‹_#_›_, if_then_else_, _:=_, !_, skip, _⨾_, while_do′_done, Ty, tInt, tBool, tUnit}
+use Rattle.l1.specs.Syntax.{plus, geq, Loc, Expr, int, bool, _‹_#_›_, if_then_else_, _:=_, !_, skip, _⨾_, while_do′_done, Ty, tInt, tBool, tUnit}
 
 -- Γ, a finite partial function from locations to T_loc. T_loc is intref alone and 01 declares the locations 0 to m − 1, so Γ is told by m.
 pub record TypeEnv : Type 0 where

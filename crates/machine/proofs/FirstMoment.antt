@@ -1,11 +1,11 @@
 -- With no pending place, no step made and the root as the work, the machine stands at the first moment of a run.
-use Prim.Native.Nat.{ℕ, _+_, _-_, _≤_, _<_}
+use Prim.Native.Nat.{ℕ, _+_, _-_, _≤_}
 use native.Mathlib.Omega.{arith}
-use mathlib.Core.Path.{_≡_, refl}
+use mathlib.Core.Path.{_≡_}
 use mathlib.Core.List.{List}
 use lib.ListN.{length}
 use Rattle.l1.specs.Store.{Store}
-use Rattle.l1.specs.Run.{Run, stay}
+use Rattle.l1.specs.Run.{stay}
 use Rattle.stored.specs.Refusals.{locations, count}
 use Rattle.routine.specs.Open.{rootOf, Runnable}
 use Rattle.machine.specs.State.{meaning, Moment, no-step}

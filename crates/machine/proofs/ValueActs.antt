@@ -19,7 +19,7 @@ use Rattle.routine.specs.Forms.{formOf}
 use Rattle.routine.specs.declared.Sizes.{Sizes}
 use Rattle.routine.specs.Open.{SizesOf, Runnable}
 use Rattle.machine.specs.Contexts.{Context, in-op1, in-op2, fill, left-to-search}
-use Rattle.machine.specs.State.{exprOf, Busy, Seen, searchOf, takesOf, nodeOf, numberOf, truthOf, contextOf, Held, redex, Stands, searchAt}
+use Rattle.machine.specs.State.{exprOf, Busy, Seen, takesOf, nodeOf, numberOf, truthOf, contextOf, Held, redex, Stands, searchAt}
 use Rattle.machine.specs.Acts.{searched, worked, Gone, Sought, went-down, read-there, Summed}
 use Rattle.machine.specs.declared.Work.{Work}
 use Rattle.machine.specs.declared.Work.the-variants as w

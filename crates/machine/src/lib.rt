@@ -6,7 +6,7 @@
 // jumps, where `load` has four; the loop in `go_on` starts with a test of the work and no subtraction, and it writes the store last, when the
 // fewest numbers are still wanted: docs/PERFORMANCE.md says what these give.
 ghost use mathlib.Core.Path.{_≡_};
-ghost use Prim.Native.Nat.{ℕ, _+_, _*_, _<_, _≤_};
+ghost use Prim.Native.Nat.{_+_, _*_, _<_, _≤_};
 ghost use lib.ListN.{length};
 ghost use Rattle.l1.specs.Syntax.{Ty, tInt};
 ghost use Rattle.l1.specs.Store.{Store};

@@ -3,7 +3,6 @@ use Prim.Native.Nat.{ℕ, _+_, _-_}
 use native.Mathlib.Omega.{arith}
 use mathlib.Core.Path.{_≡_, refl}
 use mathlib.Core.List.{List}
-use Rattle.stored.specs.Reader.{treeAt}
 use Rattle.stored.specs.Refusals.{Refusal, count, Holds, Given, Lowest}
 use Rattle.stored.specs.Answers.{Opened, refuses, opens, Opening, open-refuses, open-opens}
 use Rattle.stored.proofs.Reader.{read-tree}

@@ -1,5 +1,4 @@
 // Runs a stored routine on a lent store with fuel: refusals 1 to 9, 20 to 23 and 30, else the outcome with T and K.
-ghost use mathlib.Core.Path.{_≡_};
 ghost use Prim.Native.Nat.{_≤_};
 ghost use lib.ListN.{length};
 ghost use Rattle.stored.specs.Refusals.{locations};

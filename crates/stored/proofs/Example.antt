@@ -6,16 +6,15 @@ use mathlib.Core.List.{List, [], _∷_, _++_}
 use lib.IntN.{ℤ, pos}
 use lib.Signed.{leZ-yes}
 use Rattle.l1.specs.Syntax.{Op, Loc, Expr, int, plus, _‹_#_›_, _:=_, !_, skip, v-skip, tUnit}
-use Rattle.l1.specs.Store.{Store}
 use Rattle.l1.specs.Typing.{_declares_, _⊢_∶_, t-assign, t-op+, t-deref, t-int}
 use Rattle.l1.specs.Range.{InRange}
 use Rattle.l1.specs.Steps.{op+, op1, deref, assign1, assign2}
-use Rattle.l1.specs.Run.{Run, stay, more, value, answer, Yields, ends-value, goes-on}
+use Rattle.l1.specs.Run.{stay, more, ends-value, goes-on}
 use Rattle.l1.specs.Text.{bytes, digits, text}
 use Rattle.l1.specs.Refused.{Node, first, later}
 use Rattle.stored.specs.Bytes.{signed}
 use Rattle.stored.specs.Stored.{nodesFrom, stored, Storable}
-use Rattle.stored.specs.Refusals.{env, Holds, Given, GivenTrace, by-its-routine, given-40}
+use Rattle.stored.specs.Refusals.{env, Holds, GivenTrace, by-its-routine, given-40}
 use Rattle.stored.specs.Answers.{Opens, Nothing}
 use Rattle.stored.specs.Trace.{newline, Prints, prints-run}
 use Rattle.stored.proofs.ReadBack.{tree-reads, stored-opens}

@@ -1,14 +1,14 @@
 -- What `trace` prints is one list of lines: any two that the definition allows for an input are the same. And 01's worked example, whole.
-use Prim.Native.Nat.{ℕ, zero, suc, _≤_}
+use Prim.Native.Nat.{ℕ, suc}
 use native.Mathlib.Omega.{arith}
 use mathlib.Core.Path.{_≡_, refl, ap, ap₂}
 use mathlib.Core.List.{List, [], _∷_, _++_}
 use Rattle.l1.specs.Syntax.{Expr}
 use Rattle.l1.specs.Store.{Store}
-use Rattle.l1.specs.Run.{Run, stay, more, Outcome, Answer, answer}
-use Rattle.l1.specs.Text.{bytes, ruleName}
+use Rattle.l1.specs.Run.{Run, stay, more, Answer, answer}
+use Rattle.l1.specs.Text.{bytes}
 use Rattle.l1.proofs.Determinism.{determinism}
-use Rattle.stored.specs.Refusals.{Refusal, number, routine, Given, GivenTrace, by-its-routine, given-40}
+use Rattle.stored.specs.Refusals.{Refusal, number, routine, GivenTrace, by-its-routine, given-40}
 use Rattle.stored.specs.Trace.{storeIn, moment, moments, lastLine, refusedLine, Prints, prints-refusal, prints-run}
 use Rattle.stored.proofs.Reader.{holds-unique}
 use Rattle.stored.proofs.OneAnswer.{same-given, given-number, lowest-is-one, held-answer}

@@ -1,6 +1,6 @@
 -- The text of a node by its form and by the texts of its children, which stand before it; l, x, y and z are what the code reads of the node.
 use Prim.Native.Nat.{ℕ, _<_}
-use mathlib.Core.Path.{_≡_, _∙_, ap}
+use mathlib.Core.Path.{_≡_, refl, _∙_, ap}
 use mathlib.Core.List.{List, _++_, append-assoc}
 use Rattle.l1.specs.Text.{bytes, location, text}
 use Rattle.stored.specs.Layout.{arg, child1, child2, child3}
@@ -27,17 +27,23 @@ module _ {b : List ℕ} (ok : Runnable b) {i : ℕ} (h : i < count b) where
     assign-text a e = rw (a, p) (form-text e ∙ append-assoc (bytes "(" ++ location (arg b i) ++ bytes " := ") (textAt b (child1 b i)) (bytes ")"))
 
     module _ {y : ℕ} (q : y ≡ child2 b i) where
+      -- the forms of two parts with a sign between them
+      two-text : {F : Form} (sign : List ℕ) → formAt b i ≡ F
+          → text (make F b i (treeAt b)) ≡ bytes "(" ++ textAt b (child1 b i) ++ sign ++ textAt b (child2 b i) ++ bytes ")"
+          → textAt b i ≡ (bytes "(" ++ textAt b x) ++ sign ++ (textAt b y ++ bytes ")")
+      two-text sign e t = rw (p, q) (form-text e ∙ t ∙ append-assoc (bytes "(" ++ textAt b (child1 b i) ++ sign) (textAt b (child2 b i)) (bytes ")"))
+
       pub plus-text : formAt b i ≡ Plus → textAt b i ≡ (bytes "(" ++ textAt b x) ++ bytes " + " ++ (textAt b y ++ bytes ")")
       unfolding text
-      plus-text e = rw (p, q) (form-text e ∙ append-assoc (bytes "(" ++ textAt b (child1 b i) ++ bytes " + ") (textAt b (child2 b i)) (bytes ")"))
+      plus-text e = two-text (bytes " + ") e refl
 
       pub geq-text : formAt b i ≡ Geq → textAt b i ≡ (bytes "(" ++ textAt b x) ++ bytes " >= " ++ (textAt b y ++ bytes ")")
       unfolding text
-      geq-text e = rw (p, q) (form-text e ∙ append-assoc (bytes "(" ++ textAt b (child1 b i) ++ bytes " >= ") (textAt b (child2 b i)) (bytes ")"))
+      geq-text e = two-text (bytes " >= ") e refl
 
       pub seq-text : formAt b i ≡ Seq → textAt b i ≡ (bytes "(" ++ textAt b x) ++ bytes " ; " ++ (textAt b y ++ bytes ")")
       unfolding text
-      seq-text e = rw (p, q) (form-text e ∙ append-assoc (bytes "(" ++ textAt b (child1 b i) ++ bytes " ; ") (textAt b (child2 b i)) (bytes ")"))
+      seq-text e = two-text (bytes " ; ") e refl
 
       pub while-text : formAt b i ≡ While → textAt b i ≡ bytes "(while " ++ textAt b x ++ bytes " do " ++ textAt b y ++ bytes " done)"
       unfolding text

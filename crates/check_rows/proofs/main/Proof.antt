@@ -3,7 +3,6 @@ use Prim.Native.Nat.{_≤_, _-_}
 use native.Mathlib.Omega.{arith}
 use mathlib.Core.Path.{_≡_, sym}
 use lib.ListN.{length}
-use borrow.Author.Needs.{needs}
 use Rattle.check_rows.proofs.main.Statement.{statement}
 use Rattle.check_rows.proofs.main.Tie as tie
 

@@ -3,7 +3,6 @@ use Prim.Native.Nat.{_≤_, _-_}
 use native.Mathlib.Omega.{arith}
 use mathlib.Core.Path.{_≡_, sym, refl}
 use lib.ListN.{length}
-use borrow.Author.Needs.{needs}
 use Rattle.run_rows.proofs.main.Statement.{statement}
 use Rattle.run_rows.proofs.main.Tie as tie
 
