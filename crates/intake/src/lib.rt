@@ -3,7 +3,7 @@ ghost use mathlib.Core.Path.{_≡_};
 ghost use Prim.Native.Nat.{_+_, _≤_, _<_, min};
 ghost use lib.ListN.{length};
 ghost use Rattle.stored.specs.Refusals.{locations, routine, after-routine};
-ghost use Rattle.stored.specs.Trace.{four, fuelIn, storeIn, refusedLine};
+ghost use Rattle.stored.specs.Trace.{fuelIn, storeIn, refusedLine};
 ghost use Rattle.routine.specs.Open.{IsOpen};
 ghost use Rattle.routine.specs.Says.{refusalOf};
 ghost use Rattle.writer.specs.Put.{Put};
@@ -73,19 +73,11 @@ pub fn take_in(input: &[u8]) -> Intake
     }
 }
 
-// Four bytes at `at`, as one number.
-fn four_at(b: &[u8], at: usize) -> u32
-    requires { ⌜ at + 3 < length (now b) ⌝ }
-    ensures { λ r. ⌜ r ≡ four (now (b .entry)) at ⌝ }
-{
-    (routine::pair_at(b, at) as u32) * 65536 + (routine::pair_at(b, at + 2) as u32)
-}
-
 pub fn fuel_in(input: &[u8]) -> u32
     requires { ⌜ Accepted (now input) ⌝ }
     ensures { λ r. ⌜ r ≡ fuelIn (now (input .entry)) ⌝ }
 {
-    four_at(input, routine_end(input))
+    routine::four_at(input, routine_end(input))
 }
 
 // Fills the store, which has m entries, with the values.
@@ -93,12 +85,7 @@ pub fn values_in(input: &[u8], s: &mut [i32])
     requires { ⌜ Accepted (now input) × (length (now s) ≡ locations (routine (now input))) ⌝ }
     ensures { λ r. ⌜ now (s .exit) ≡ storeIn (now (input .entry)) ⌝ }
 {
-    let start = routine_end(input) + 4;
-    let mut i = 0;
-    while i < s.len() {
-        s[i] = routine::signed_of(four_at(input, start + 4 * i));
-        i += 1;
-    }
+    routine::values_at(input, routine_end(input) + 4, s)
 }
 
 // Whether a refusal also returns something.

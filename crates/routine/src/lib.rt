@@ -5,6 +5,7 @@ ghost use lib.ListN.{length};
 ghost use Rattle.stored.specs.Bytes.{pair, signed};
 ghost use Rattle.stored.specs.Layout.{start, kind, arg, child1, child2, child3};
 ghost use Rattle.stored.specs.Refusals.{number};
+ghost use Rattle.stored.specs.Trace.{four, valuesFrom};
 ghost use Rattle.routine.specs.Forms.{formOf, kindOf, digitOf, nodeOf, integerOf};
 ghost use Rattle.routine.specs.Says.{refusalOf, returned};
 ghost use Rattle.routine.specs.Open.{IsOpen};
@@ -206,6 +207,26 @@ pub fn node_at(b: &[u8], i: usize) -> Node
         second,
         third,
         number: whole(second, third),
+    }
+}
+
+// Four bytes at `at`, as one number.
+pub fn four_at(b: &[u8], at: usize) -> u32
+    requires { ⌜ at + 3 < length (now b) ⌝ }
+    ensures { λ r. ⌜ r ≡ four (now (b .entry)) at ⌝ }
+{
+    (pair_at(b, at) as u32) * 65536 + (pair_at(b, at + 2) as u32)
+}
+
+// Fills the store with values of four bytes each, from `at` on.
+pub fn values_at(b: &[u8], at: usize, s: &mut [i32])
+    requires { ⌜ at + 4 * length (now s) ≤ length (now b) ⌝ }
+    ensures { λ r. ⌜ now (s .exit) ≡ valuesFrom (now (b .entry)) at (length (now (s .entry))) ⌝ }
+{
+    let mut i = 0;
+    while i < s.len() {
+        s[i] = signed_of(four_at(b, at + 4 * i));
+        i += 1;
     }
 }
 

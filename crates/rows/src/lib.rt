@@ -1,7 +1,9 @@
 // What the programs over a rows file share. A record is 2 bytes R, 4 bytes of fuel, 2 bytes E, E entries of 4 bytes and the R bytes of the row,
 // all big-endian.
-ghost use Prim.Native.Nat.{_≤_};
+ghost use mathlib.Core.Path.{_≡_};
+ghost use Prim.Native.Nat.{_+_, _≤_, _<_};
 ghost use lib.ListN.{length};
+ghost use Rattle.stored.specs.Bytes.{pair};
 use libc::STDIN_FILENO;
 use libc::STDOUT_FILENO;
 use routine::Refusal;
@@ -26,36 +28,12 @@ pub fn print_refusal(r: Refusal) {
     }
 }
 
-// The number in two bytes, 0 past the end.
+// The number in two bytes.
 pub fn two(b: &[u8], at: usize) -> usize
-    ensures { λ r. ⌜ r ≤ 65535 ⌝ }
+    requires { ⌜ at + 1 < length (now b) ⌝ }
+    ensures { λ r. ⌜ (r ≡ pair (now (b .entry)) at) × (r ≤ 65535) ⌝ }
 {
-    if at < b.len() {
-        if at + 1 < b.len() {
-            return routine::wide(b[at]) * 256 + routine::wide(b[at + 1]);
-        }
-    }
-    0
-}
-
-// The number in four bytes, of which those past the end count as 0.
-pub fn four(b: &[u8], at: usize) -> u32
-    requires { ⌜ at ≤ 1000000 ⌝ }
-{
-    let high = two(b, at);
-    let low = two(b, at + 2);
-    (high * 65536 + low) as u32
-}
-
-// The entries of a store, from their bytes.
-pub fn fill(b: &[u8], s: &mut [i32])
-    requires { ⌜ length (now s) ≤ 1000 ⌝ }
-{
-    let mut i = 0;
-    while i < s.len() {
-        s[i] = routine::signed_of(four(b, 4 * i));
-        i += 1;
-    }
+    routine::pair_at(b, at) as usize
 }
 
 // Reads n bytes to the start of the room, fewer where the input ends.

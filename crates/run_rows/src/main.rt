@@ -70,13 +70,13 @@ fn one_row(room: &mut [u8], store: &mut [i32]) -> bool
         return false;
     }
     let bytes = rows::two(room, 0);
-    let fuel = rows::four(room, 2);
+    let fuel = routine::four_at(room, 2);
     let entries = rows::two(room, 6);
     if 1000 < entries {
         return false;
     }
     rows::take(room, 4 * entries);
-    rows::fill(room, &mut store[..entries]);
+    routine::values_at(room, 0, &mut store[..entries]);
     let n = rows::take(room, bytes);
     run_row(&room[..n], &mut store[..entries], fuel);
     true

@@ -13,4 +13,5 @@ pub mod Traces  -- `trace` prints one list of lines
 pub mod Acceptance  -- what the check's answers say of the bytes
 pub mod RunAnswers  -- what the run's answers say, and that there is one
 pub mod LowestGiven  -- the lowest refusal of the routine, of the run, of the text and of `trace`
+pub mod ValueLists  -- values read from bytes, one more at a time
 pub mod Example  -- the bytes of 01's worked example

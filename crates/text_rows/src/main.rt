@@ -92,13 +92,13 @@ fn one_row(room: &mut [u8], store: &mut [i32], buf: &mut [u8]) -> bool
         return false;
     }
     let bytes = rows::two(room, 0);
-    let k = rows::four(room, 2);
+    let k = routine::four_at(room, 2);
     let entries = rows::two(room, 6);
     if 1000 < entries {
         return false;
     }
     rows::take(room, 4 * entries);
-    rows::fill(room, &mut store[..entries]);
+    routine::values_at(room, 0, &mut store[..entries]);
     let n = rows::take(room, bytes);
     print_calls(&room[..n], &store[..entries], k, buf);
     true
