@@ -186,11 +186,12 @@ pub fn signed_of(u: u32) -> i32
     }
 }
 
-// The number in bytes 4-7 of a node, by its halves.
-fn whole(high: u16, low: u16) -> i32
-    ensures { λ r. ⌜ r ≡ signed (high * 65536 + low) ⌝ }
+// Four bytes at `at`, as one number.
+pub fn four_at(b: &[u8], at: usize) -> u32
+    requires { ⌜ at + 3 < length (now b) ⌝ }
+    ensures { λ r. ⌜ r ≡ four (now (b .entry)) at ⌝ }
 {
-    signed_of((high as u32) * 65536 + (low as u32))
+    (pair_at(b, at) as u32) * 65536 + (pair_at(b, at + 2) as u32)
 }
 
 pub fn node_at(b: &[u8], i: usize) -> Node
@@ -198,24 +199,14 @@ pub fn node_at(b: &[u8], i: usize) -> Node
     ensures { λ r. ⌜ r ≡ nodeOf (now (b .entry)) i ⌝ }
 {
     let at = 6 + 8 * i;
-    let second = pair_at(b, at + 4);
-    let third = pair_at(b, at + 6);
     Node {
         form: form_of(b[at]),
         arg: b[at + 1],
         first: pair_at(b, at + 2),
-        second,
-        third,
-        number: whole(second, third),
+        second: pair_at(b, at + 4),
+        third: pair_at(b, at + 6),
+        number: signed_of(four_at(b, at + 4)),
     }
-}
-
-// Four bytes at `at`, as one number.
-pub fn four_at(b: &[u8], at: usize) -> u32
-    requires { ⌜ at + 3 < length (now b) ⌝ }
-    ensures { λ r. ⌜ r ≡ four (now (b .entry)) at ⌝ }
-{
-    (pair_at(b, at) as u32) * 65536 + (pair_at(b, at + 2) as u32)
 }
 
 // Fills the store with values of four bytes each, from `at` on.
