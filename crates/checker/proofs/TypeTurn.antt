@@ -22,7 +22,7 @@ use Rattle.routine.specs.Open.{rootOf, IsOpen}
 use Rattle.routine.specs.declared.Node.{Node}
 use Rattle.routine.specs.declared.Sizes.{Sizes}
 use Rattle.checker.specs.Rules.{faultBy, typeBy}
-use Rattle.checker.specs.Says.{Accepted}
+use Rattle.checker.specs.Says.{HasType}
 use Rattle.routine.proofs.Standing.{is-headed, root-size, nodes-stand, root-nodes}
 
 -- what is known of a node that was passed
@@ -95,7 +95,7 @@ module _ {b types : List ℕ} {z : Sizes} {i : ℕ} (mask : ℕ) (o : IsOpen b z
         (record { clear = sym its-fault ∙ h; typed = getD-set-same types i t 0 room ∙ q ∙ rw read (right .1) })
 
   -- all nodes are passed: the root has the type that the table's last entry tells
-  pub all-passed : z .nodes ≤ i → Accepted b × (getD types (z .nodes - 1) 0 ≡ typeNo (ruleType (rootOf b)))
+  pub all-passed : z .nodes ≤ i → HasType b × (getD types (z .nodes - 1) 0 ≡ typeNo (ruleType (rootOf b)))
   all-passed h =
       let p : z .nodes ≡ count b = o .sizes .0 in let s = root-size (o .opens) (o .holds) in let hd = is-headed (o .opens) (o .holds) in
       (clear-typed (rootOf b) (clear-below _ (omega arith) (omega arith)), rw p (past (count b - 1) (omega arith) .typed))

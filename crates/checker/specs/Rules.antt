@@ -6,7 +6,7 @@ use mathlib.Core.List.{List, []}
 use lib.Dec.{eqb, ltb}
 use Rattle.l1.specs.Syntax.{Loc, Ty, tInt, tBool, tUnit}
 use Rattle.l1.specs.Judge.{typeNo}
-use Rattle.l1.specs.Sets.{Use, by-deref, by-assign}
+use Rattle.l1.specs.Sets.{Use, uses-of-deref, uses-of-assign}
 use Rattle.routine.specs.declared.Form.{Form}
 use Rattle.routine.specs.declared.Form.the-variants.{Integer, Boolean, Plus, Geq, If, Assign, Deref, Skip, Seq, While, Unknown}
 use Rattle.checker.specs.declared.Ty as Code
@@ -61,8 +61,8 @@ usesBy u Boolean l = []
 usesBy u Plus l = []
 usesBy u Geq l = []
 usesBy u If l = []
-usesBy u Assign l = by-assign u l
-usesBy u Deref l = by-deref u l
+usesBy u Assign l = uses-of-assign u l
+usesBy u Deref l = uses-of-deref u l
 usesBy u Skip l = []
 usesBy u Seq l = []
 usesBy u While l = []

@@ -21,8 +21,8 @@ use Rattle.checker.specs.declared.Checked.the-variants as C
 use Rattle.checker.specs.Rules.{typeOf}
 
 -- the routine has a type
-abbrev pub Accepted : List ℕ → Type 0
-Accepted b = env b ⊢ rootOf b ∶ ruleType (rootOf b)
+abbrev pub HasType : List ℕ → Type 0
+HasType b = env b ⊢ rootOf b ∶ ruleType (rootOf b)
 
 pub record TallySays (b : List ℕ) (r : Tally) : Type 0 where
   pub its-type : r .ty ≡ typeNo (ruleType (rootOf b))
@@ -32,7 +32,7 @@ pub record TallySays (b : List ℕ) (r : Tally) : Type 0 where
 
 abbrev pub TypedSays : List ℕ → Typed → Type 0
 TypedSays b (Fault c i) = Refused (env b) (rootOf b) c i
-TypedSays b (All t) = Accepted b × TallySays b t
+TypedSays b (All t) = HasType b × TallySays b t
 
 -- the answer of the check, in 01's numbers and values
 abbrev pub checkedOf : Checked → S.Checked

@@ -19,7 +19,7 @@ use Rattle.l1.specs.Judge.{ruleType, fault, first-fault, verdict}
 use Rattle.l1.specs.Next.{next}
 use Rattle.l1.specs.RunOf.{runOf}
 use Rattle.l1.specs.Course as C
-use Rattle.l1.specs.Course.{Said, ran, refused, Row, Told, told-ran, told-refused, Right, rows, All-right}
+use Rattle.l1.specs.Course.{Said, ran, refused, Row, Found, found-ran, found-refused, Right, rows, All-right}
 use Rattle.l1.proofs.Progress.{Covers}
 use Rattle.l1.proofs.Verdict.{verdict-judged}
 use Rattle.l1.proofs.RunOf.{computed-yields}
@@ -36,18 +36,18 @@ by-verdict (R.refused c i) a = some (refused c i)
 unfoldable tell : TypeEnv → ℕ → Expr → Store → Option Said
 tell Γ f e s = by-verdict (verdict Γ e) (runOf f e s)
 
-told : {Γ : TypeEnv} (f : ℕ) (e : Expr) (s : Store) {x : Said} → Covers Γ s → tell Γ f e s ≡ some x → Told Γ f e s x
+told : {Γ : TypeEnv} (f : ℕ) (e : Expr) (s : Store) {x : Said} → Covers Γ s → tell Γ f e s ≡ some x → Found Γ f e s x
 unfolding tell
 told {Γ} f e s {x} c h = go (verdict Γ e) (verdict-judged Γ e) (runOf f e s) refl h
   where
-    go : (v : Verdict) → Judged Γ e v → (a : Option Answer) → runOf f e s ≡ a → by-verdict v a ≡ some x → Told Γ f e s x
-    go (typed U) (has-type t) (some (answer o T K e′ s′)) q p = rw (← Option·some-injective _ _ p) (told-ran t c (computed-yields f c t q))
+    go : (v : Verdict) → Judged Γ e v → (a : Option Answer) → runOf f e s ≡ a → by-verdict v a ≡ some x → Found Γ f e s x
+    go (typed U) (has-type t) (some (answer o T K e′ s′)) q p = rw (← Option·some-injective _ _ p) (found-ran t c (computed-yields f c t q))
     go (typed U) (has-type t) none q p = absurd (Option·none-ne-some x p)
-    go (R.refused i j) (has-none r) a q p = rw (← Option·some-injective _ _ p) (told-refused r)
+    go (R.refused i j) (has-none r) a q p = rw (← Option·some-injective _ _ p) (found-refused r)
 
 -- what a row says, and what is computed of it: the routine's text, that the store covers the locations, and the answer
 unfoldable said : Row → List ℕ × Bool × Option Said
-said r = (r .shown, true, some (r .says))
+said r = (r .printed, true, some (r .says))
 
 unfoldable found : Row → List ℕ × Bool × Option Said
 found r =

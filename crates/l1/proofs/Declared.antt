@@ -1,14 +1,14 @@
 -- A typed expression reads and writes declared locations alone.
 use Rattle.l1.specs.Syntax.{Loc, Expr, Ty}
 use Rattle.l1.specs.Typing.{TypeEnv, _declares_, _⊢_∶_, t-int, t-bool, t-op+, t-op≥, t-if, t-assign, t-deref, t-skip, t-seq, t-while}
-use Rattle.l1.specs.Sets.{Use, reading, writing, by-deref, by-assign, uses}
+use Rattle.l1.specs.Sets.{Use, reading, writing, uses-of-deref, uses-of-assign, uses}
 use Rattle.l1.proofs.Membership.{All, all-of-none, all-of-one, all-of-both}
 
-deref-declared : {Γ : TypeEnv} {l : Loc} (u : Use) → Γ declares l → All (_declares_ Γ) (by-deref u l)
+deref-declared : {Γ : TypeEnv} {l : Loc} (u : Use) → Γ declares l → All (_declares_ Γ) (uses-of-deref u l)
 deref-declared reading h = all-of-one h
 deref-declared writing h = all-of-none
 
-assign-declared : {Γ : TypeEnv} {l : Loc} (u : Use) → Γ declares l → All (_declares_ Γ) (by-assign u l)
+assign-declared : {Γ : TypeEnv} {l : Loc} (u : Use) → Γ declares l → All (_declares_ Γ) (uses-of-assign u l)
 assign-declared reading h = all-of-none
 assign-declared writing h = all-of-one h
 

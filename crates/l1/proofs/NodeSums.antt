@@ -8,7 +8,7 @@ use mathlib.Core.List.{List, [], _∷_, _++_, append-assoc, append-nil}
 use lib.ListN.{take}
 use Rattle.l1.specs.Syntax.{Loc, Expr, int, bool, _‹_#_›_, if_then_else_, _:=_, !_, skip, _⨾_, while_do′_done}
 use Rattle.l1.specs.Measures.{working}
-use Rattle.l1.specs.Sets.{Use, by-deref, by-assign, uses}
+use Rattle.l1.specs.Sets.{Use, uses-of-deref, uses-of-assign, uses}
 use Rattle.l1.specs.Refused.{nodes, Nth, first, later}
 
 -- what the root of a tree itself adds to W and to a set
@@ -28,8 +28,8 @@ ownUses u (int n) = []
 ownUses u (bool b) = []
 ownUses u (e₁ ‹ o # i › e₂) = []
 ownUses u (if e₁ then e₂ else e₃) = []
-ownUses u (l := e) = by-assign u l
-ownUses u (! l) = by-deref u l
+ownUses u (l := e) = uses-of-assign u l
+ownUses u (! l) = uses-of-deref u l
 ownUses u skip = []
 ownUses u (e₁ ⨾ e₂) = []
 ownUses u (while e₁ do′ e₂ done) = []

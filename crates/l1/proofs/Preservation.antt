@@ -8,7 +8,7 @@ use Rattle.l1.specs.Syntax.{Loc, Expr, Ty}
 use Rattle.l1.specs.Store.{Store, lookup}
 use Rattle.l1.specs.Typing.{TypeEnv, _⊢_∶_, t-int, t-bool, t-op+, t-op≥, t-if, t-assign, t-deref, t-skip, t-seq, t-while}
 use Rattle.l1.specs.Steps.{Rule, ⟨_∣_⟩⟶⟨_∣_⟩_, op+, op≥, op1, op2, deref, assign1, assign2, seq1, seq2, if1, if2, if3, while}
-use Rattle.l1.specs.Sets.{Use, by-assign, uses, writes, _∈_}
+use Rattle.l1.specs.Sets.{Use, uses-of-assign, uses, writes, _∈_}
 use Rattle.l1.proofs.Membership.{all-of-none, all-of-both, _⊆_, ⊆-same, ⊆-left, ⊆-right, ⊆-parts}
 
 pub step-keeps-type : {Γ : TypeEnv} {T : Ty} {r : Rule} {e e′ : Expr} {s s′ : Store} → ⟨ e ∣ s ⟩⟶⟨ e′ ∣ s′ ⟩ r → Γ ⊢ e ∶ T → Γ ⊢ e′ ∶ T
@@ -51,7 +51,7 @@ step-keeps-uses u (op1 {e₂ = e₂} d) = ⊆-parts (step-keeps-uses u d) (⊆-s
 step-keeps-uses u (op2 {v = v} x d) = ⊆-parts (⊆-same (uses u v)) (step-keeps-uses u d)
 step-keeps-uses u (deref h q) = all-of-none
 step-keeps-uses u (assign1 h) = all-of-none
-step-keeps-uses u (assign2 {l = l} d) = ⊆-parts (step-keeps-uses u d) (⊆-same (by-assign u l))
+step-keeps-uses u (assign2 {l = l} d) = ⊆-parts (step-keeps-uses u d) (⊆-same (uses-of-assign u l))
 step-keeps-uses u (seq1 {e₂}) = ⊆-same (uses u e₂)
 step-keeps-uses u (seq2 {e₂ = e₂} d) = ⊆-parts (step-keeps-uses u d) (⊆-same (uses u e₂))
 step-keeps-uses u (if1 {e₂} {e₃}) = ⊆-left (uses u e₃) (⊆-same (uses u e₂))

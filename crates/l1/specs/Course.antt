@@ -18,7 +18,7 @@ pub data Said : Type 0 where
   refused : ℕ → ℕ → Said
 
 pub record Row : Type 0 where
-  pub shown : List ℕ
+  pub printed : List ℕ
   pub routine : Expr
   pub locations : ℕ
   pub fuel-given : ℕ
@@ -26,20 +26,20 @@ pub record Row : Type 0 where
   pub says : Said
 
 -- what the definitions say of a row
-pub data Told (Γ : TypeEnv) (f : ℕ) (e : Expr) (s : Store) : Said → Type 0 where
-  told-ran : {U : Ty} {o : Outcome} {T K : ℕ} {e′ : Expr} {s′ : Store}
+pub data Found (Γ : TypeEnv) (f : ℕ) (e : Expr) (s : Store) : Said → Type 0 where
+  found-ran : {U : Ty} {o : Outcome} {T K : ℕ} {e′ : Expr} {s′ : Store}
       → Γ ⊢ e ∶ U → Γ .locations ≤ length s → Yields f e s (answer o T K e′ s′)
-      → Told Γ f e s (ran U o T K (text e′) s′)
-  told-refused : {c i : ℕ}
+      → Found Γ f e s (ran U o T K (text e′) s′)
+  found-refused : {c i : ℕ}
       → Refused Γ e c i
-      → Told Γ f e s (refused c i)
+      → Found Γ f e s (refused c i)
 
 pub record Right (r : Row) : Type 0 where
-  pub its-text : r .shown ≡ text (r .routine)
-  pub its-answer : Told (record { locations = r .locations }) (r .fuel-given) (r .routine) (r .store) (r .says)
+  pub its-text : r .printed ≡ text (r .routine)
+  pub its-answer : Found (record { locations = r .locations }) (r .fuel-given) (r .routine) (r .store) (r .says)
 
 abbrev row : List ℕ → Expr → ℕ → ℕ → Store → Said → Row
-row t e m f s a = record { shown = t; routine = e; locations = m; fuel-given = f; store = s; says = a }
+row t e m f s a = record { printed = t; routine = e; locations = m; fuel-given = f; store = s; says = a }
 
 -- a store of one location
 abbrev l0 : ℕ → Store

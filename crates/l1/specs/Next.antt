@@ -24,55 +24,55 @@ pub data Does (e : Expr) (s : Store) : Act → Type 0 where
   does-step : {r : Rule} {e′ : Expr} {s′ : Store} → ⟨ e ∣ s ⟩⟶⟨ e′ ∣ s′ ⟩ r → Does e s (steps r e′ s′)
 
 -- which value an expression is, if it is one
-pub data Shown : Type 0 where
-  number : ℤ → Shown
-  truth : Bool → Shown
-  unit : Shown
-  unfinished : Shown
+pub data Which : Type 0 where
+  is-int : ℤ → Which
+  is-bool : Bool → Which
+  is-skip : Which
+  is-none : Which
 
-abbrev pub shown : Expr → Shown
-shown (int n) = number n
-shown (bool b) = truth b
-shown (e₁ ‹ o # i › e₂) = unfinished
-shown (if e₁ then e₂ else e₃) = unfinished
-shown (l := e) = unfinished
-shown (! l) = unfinished
-shown skip = unit
-shown (e₁ ⨾ e₂) = unfinished
-shown (while e₁ do′ e₂ done) = unfinished
+abbrev pub which : Expr → Which
+which (int n) = is-int n
+which (bool b) = is-bool b
+which (e₁ ‹ o # i › e₂) = is-none
+which (if e₁ then e₂ else e₃) = is-none
+which (l := e) = is-none
+which (! l) = is-none
+which skip = is-skip
+which (e₁ ⨾ e₂) = is-none
+which (while e₁ do′ e₂ done) = is-none
 
 abbrev pub in-range : ℤ → Bool
 in-range n = leZ lowest n && leZ n highest
 
 -- the act of a form whose parts are values; `none` where no rule is for them
-abbrev pub op-act : Op → ℕ → Shown → Shown → Store → Option Act
-op-act plus i (number n₁) (number n₂) s = cond (in-range (n₁ +ℤ n₂)) (some (steps by-plus (int (n₁ +ℤ n₂)) s)) (some (overflows i))
-op-act geq i (number n₁) (number n₂) s = some (steps by-geq (bool (leZ n₂ n₁)) s)
-op-act o i (number n₁) (truth b) s = none
-op-act o i (number n₁) unit s = none
-op-act o i (number n₁) unfinished s = none
-op-act o i (truth b) y s = none
-op-act o i unit y s = none
-op-act o i unfinished y s = none
+abbrev pub op-act : Op → ℕ → Which → Which → Store → Option Act
+op-act plus i (is-int n₁) (is-int n₂) s = cond (in-range (n₁ +ℤ n₂)) (some (steps by-plus (int (n₁ +ℤ n₂)) s)) (some (overflows i))
+op-act geq i (is-int n₁) (is-int n₂) s = some (steps by-geq (bool (leZ n₂ n₁)) s)
+op-act o i (is-int n₁) (is-bool b) s = none
+op-act o i (is-int n₁) is-skip s = none
+op-act o i (is-int n₁) is-none s = none
+op-act o i (is-bool b) y s = none
+op-act o i is-skip y s = none
+op-act o i is-none y s = none
 
-abbrev pub if-act : Shown → Expr → Expr → Store → Option Act
-if-act (number n) e₂ e₃ s = none
-if-act (truth true) e₂ e₃ s = some (steps by-if-true e₂ s)
-if-act (truth false) e₂ e₃ s = some (steps by-if-false e₃ s)
-if-act unit e₂ e₃ s = none
-if-act unfinished e₂ e₃ s = none
+abbrev pub if-act : Which → Expr → Expr → Store → Option Act
+if-act (is-int n) e₂ e₃ s = none
+if-act (is-bool true) e₂ e₃ s = some (steps by-if-true e₂ s)
+if-act (is-bool false) e₂ e₃ s = some (steps by-if-false e₃ s)
+if-act is-skip e₂ e₃ s = none
+if-act is-none e₂ e₃ s = none
 
-abbrev pub assign-act : Loc → Shown → Store → Option Act
-assign-act l (number n) s = cond (ltb l (length s)) (some (steps by-assign skip (update s l n))) none
-assign-act l (truth b) s = none
-assign-act l unit s = none
-assign-act l unfinished s = none
+abbrev pub assign-act : Loc → Which → Store → Option Act
+assign-act l (is-int n) s = cond (ltb l (length s)) (some (steps by-assign skip (update s l n))) none
+assign-act l (is-bool b) s = none
+assign-act l is-skip s = none
+assign-act l is-none s = none
 
-abbrev pub seq-act : Shown → Expr → Store → Option Act
-seq-act (number n) e₂ s = none
-seq-act (truth b) e₂ s = none
-seq-act unit e₂ s = some (steps by-seq e₂ s)
-seq-act unfinished e₂ s = none
+abbrev pub seq-act : Which → Expr → Store → Option Act
+seq-act (is-int n) e₂ s = none
+seq-act (is-bool b) e₂ s = none
+seq-act is-skip e₂ s = some (steps by-seq e₂ s)
+seq-act is-none e₂ s = none
 
 -- the act of a part is the whole's, in its place f; where the part has ended, `rest` is
 abbrev pub within : (Expr → Expr) → Option Act → Option Act → Option Act
@@ -85,10 +85,10 @@ within f none rest = none
 unfoldable pub next : Expr → Store → Option Act
 next (int n) s = some ends
 next (bool b) s = some ends
-next (e₁ ‹ o # i › e₂) s = within (λ x. x ‹ o # i › e₂) (next e₁ s) (within (λ x. e₁ ‹ o # i › x) (next e₂ s) (op-act o i (shown e₁) (shown e₂) s))
-next (if e₁ then e₂ else e₃) s = within (λ x. if x then e₂ else e₃) (next e₁ s) (if-act (shown e₁) e₂ e₃ s)
-next (l := e) s = within (λ x. l := x) (next e s) (assign-act l (shown e) s)
+next (e₁ ‹ o # i › e₂) s = within (λ x. x ‹ o # i › e₂) (next e₁ s) (within (λ x. e₁ ‹ o # i › x) (next e₂ s) (op-act o i (which e₁) (which e₂) s))
+next (if e₁ then e₂ else e₃) s = within (λ x. if x then e₂ else e₃) (next e₁ s) (if-act (which e₁) e₂ e₃ s)
+next (l := e) s = within (λ x. l := x) (next e s) (assign-act l (which e) s)
 next (! l) s = cond (ltb l (length s)) (some (steps by-deref (int (lookup s l)) s)) none
 next skip s = some ends
-next (e₁ ⨾ e₂) s = within (λ x. x ⨾ e₂) (next e₁ s) (seq-act (shown e₁) e₂ s)
+next (e₁ ⨾ e₂) s = within (λ x. x ⨾ e₂) (next e₁ s) (seq-act (which e₁) e₂ s)
 next (while e₁ do′ e₂ done) s = some (steps by-while (if e₁ then (e₂ ⨾ while e₁ do′ e₂ done) else skip) s)

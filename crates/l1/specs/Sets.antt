@@ -9,21 +9,21 @@ pub data Use : Type 0 where
   reading writing : Use
 
 -- what a dereference of l reads and writes, and what an assignment to l does
-abbrev pub by-deref : Use → Loc → List Loc
-by-deref reading l = l ∷ []
-by-deref writing l = []
+abbrev pub uses-of-deref : Use → Loc → List Loc
+uses-of-deref reading l = l ∷ []
+uses-of-deref writing l = []
 
-abbrev pub by-assign : Use → Loc → List Loc
-by-assign reading l = []
-by-assign writing l = l ∷ []
+abbrev pub uses-of-assign : Use → Loc → List Loc
+uses-of-assign reading l = []
+uses-of-assign writing l = l ∷ []
 
 abbrev pub uses : Use → Expr → List Loc
 uses u (int n) = []
 uses u (bool b) = []
 uses u (e₁ ‹ o # i › e₂) = uses u e₁ ++ uses u e₂
 uses u (if e₁ then e₂ else e₃) = uses u e₁ ++ uses u e₂ ++ uses u e₃
-uses u (l := e) = uses u e ++ by-assign u l
-uses u (! l) = by-deref u l
+uses u (l := e) = uses u e ++ uses-of-assign u l
+uses u (! l) = uses-of-deref u l
 uses u skip = []
 uses u (e₁ ⨾ e₂) = uses u e₁ ++ uses u e₂
 uses u (while e₁ do′ e₂ done) = uses u e₁ ++ uses u e₂

@@ -24,9 +24,9 @@ digits (suc d) n r = elim (ltb n 10) [ true ↦ (48 + n) ∷ r | false ↦ digit
 abbrev pub decimal : ℕ → List ℕ
 decimal n = digits n n []
 
-abbrev pub number : ℤ → List ℕ
-number (pos n) = decimal n
-number (negsuc n) = bytes "-" ++ decimal (suc n)
+abbrev pub integer : ℤ → List ℕ
+integer (pos n) = decimal n
+integer (negsuc n) = bytes "-" ++ decimal (suc n)
 
 abbrev pub truth : Bool → List ℕ
 truth true = bytes "true"
@@ -40,7 +40,7 @@ abbrev pub location : Loc → List ℕ
 location l = bytes "l" ++ decimal l
 
 unfoldable pub text : Expr → List ℕ
-text (int n) = number n
+text (int n) = integer n
 text (bool b) = truth b
 text (e₁ ‹ o # i › e₂) = bytes "(" ++ text e₁ ++ sign o ++ text e₂ ++ bytes ")"
 text (if e₁ then e₂ else e₃) = bytes "(if " ++ text e₁ ++ bytes " then " ++ text e₂ ++ bytes " else " ++ text e₃ ++ bytes ")"

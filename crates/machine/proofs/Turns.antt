@@ -25,7 +25,7 @@ use Rattle.routine.specs.declared.Sizes.{Sizes}
 use Rattle.routine.specs.Open.{SizesOf, rootOf, Runnable}
 use Rattle.routine.proofs.Standing.{root-depth, nodes-stand}
 use Rattle.machine.specs.Contexts.{Context, plug, left-to-search, all-left}
-use Rattle.machine.specs.State.{exprOf, Seen, searchOf, takesOf, contextOf, Held, redex, Stands, searchAt, blank, stack, after, HeldBy, growsOf, isOver, overAt, written, Within, ruleNo, madeBy, turnedBy, lastRule, meaning, LastStep, last-step, Moment, outcomeOf, endOf}
+use Rattle.machine.specs.State.{exprOf, Seen, searchOf, takesOf, contextOf, Held, redex, HeldUnder, searchAt, blank, stack, after, HeldBy, growsOf, isOver, overAt, written, Within, ruleNo, madeBy, turnedBy, lastRule, meaning, LastStep, last-step, Moment, outcomeOf, endOf}
 use Rattle.machine.specs.Acts.{Went, searched, worked, over, Stepped}
 use Rattle.machine.specs.declared.Work.{Work}
 use Rattle.machine.specs.declared.Work.the-variants as w
@@ -102,7 +102,7 @@ module _ (b : List ℕ) (fs : List Frame) (at : ℕ) where
   search-split (w.Bool t) h e = let z : h ≡ suc at = omega arith in rw z (omega arith)
   search-split w.Skip h e = let z : h ≡ suc at = omega arith in rw z (omega arith)
 
-  stands : (y : Work) (h : ℕ) → at + takesOf y ≡ h → ((j : ℕ) → j < h → Held b (getD fs j blank .place)) → Stands b y top
+  stands : (y : Work) (h : ℕ) → at + takesOf y ≡ h → ((j : ℕ) → j < h → Held b (getD fs j blank .place)) → HeldUnder b y top
   stands (w.Node i) h e all = tt
   stands (w.Int n) h e all = all at (omega arith)
   stands (w.Bool t) h e all = all at (omega arith)
@@ -287,7 +287,7 @@ module _ {b : List ℕ} {s₀ s : Store} {p : Pending} {m : Machine} (i : Moment
 
   -- what `step` asks
   pub may-step : (at : ℕ) {z : Sizes} → at + takesOf (m .work) ≡ p .height → SizesOf b z
-      → Runnable b × Seen b (m .work) × Stands b (m .work) (placeAt p at) × (locations b ≤ length s)
+      → Runnable b × Seen b (m .work) × HeldUnder b (m .work) (placeAt p at) × (locations b ≤ length s)
       × ((T : Ty) × (env b ⊢ redex b (m .work) (placeAt p at) ∶ T)) × SizesOf b z
   may-step at e sizes =
       let t = subst (λ (x : Expr). env b ⊢ x ∶ i .runnable .type) (same at e) (run-keeps-type (i .run) (i .runnable .typed)) in (

@@ -19,7 +19,7 @@ use Rattle.routine.specs.Forms.{formOf}
 use Rattle.routine.specs.declared.Sizes.{Sizes}
 use Rattle.routine.specs.Open.{SizesOf, Runnable}
 use Rattle.machine.specs.Contexts.{Context, in-op1, in-op2, fill, left-to-search}
-use Rattle.machine.specs.State.{exprOf, Busy, Seen, takesOf, nodeOf, numberOf, truthOf, contextOf, Held, redex, Stands, searchAt}
+use Rattle.machine.specs.State.{exprOf, Busy, Seen, takesOf, nodeOf, numberOf, truthOf, contextOf, Held, redex, HeldUnder, searchAt}
 use Rattle.machine.specs.Acts.{searched, worked, Gone, Sought, went-down, read-there, Summed}
 use Rattle.machine.specs.declared.Work.{Work}
 use Rattle.machine.specs.declared.Work.the-variants as w
@@ -146,7 +146,7 @@ is-value w.Skip q = refl
 
 module _ (b : List ℕ) (f : Place) where
   -- what the act works on is the place with the value in it
-  pub as-value : (y : Work) → takesOf y ≡ 1 → Stands b y f → ((T : Ty) × (env b ⊢ redex b y f ∶ T))
+  pub as-value : (y : Work) → takesOf y ≡ 1 → HeldUnder b y f → ((T : Ty) × (env b ⊢ redex b y f ∶ T))
       → Held b f × ((T : Ty) × (env b ⊢ fill (contextOf b f) (exprOf b y) ∶ T))
   as-value (w.Node i) q held typed = absurd (omega arith)
   as-value (w.Int n) q held typed = (held, typed)

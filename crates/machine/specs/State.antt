@@ -136,11 +136,11 @@ redex b (w.Int n) f = fill (contextOf b f) (int n)
 redex b (w.Bool t) f = fill (contextOf b f) (bool t)
 redex b w.Skip f = fill (contextOf b f) skip
 
-abbrev pub Stands : List ℕ → Work → Place → Type 0
-Stands b (w.Node i) f = Unit
-Stands b (w.Int n) f = Held b f
-Stands b (w.Bool t) f = Held b f
-Stands b w.Skip f = Held b f
+abbrev pub HeldUnder : List ℕ → Work → Place → Type 0
+HeldUnder b (w.Node i) f = Unit
+HeldUnder b (w.Int n) f = Held b f
+HeldUnder b (w.Bool t) f = Held b f
+HeldUnder b w.Skip f = Held b f
 
 abbrev pub searchAt : List ℕ → Work → Place → ℕ
 searchAt b (w.Node i) f = 2 * size (treeAt b i)

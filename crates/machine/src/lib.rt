@@ -19,7 +19,7 @@ ghost use Rattle.stored.specs.Refusals.{locations, count, env};
 ghost use Rattle.routine.specs.Forms.{formOf};
 ghost use Rattle.routine.specs.Open.{SizesOf, rootOf, Runnable};
 ghost use Rattle.machine.specs.Contexts.{fill, left-to-search};
-ghost use Rattle.machine.specs.State.{exprOf, Busy, isDeref, Seen, takesOf, nodeOf, numberOf, truthOf, contextOf, Held, redex, Stands, searchAt, growsOf, isOver, overAt, written, Within, madeBy, turnedBy, lastRule, endOf, outcomeOf, meaning, Moment};
+ghost use Rattle.machine.specs.State.{exprOf, Busy, isDeref, Seen, takesOf, nodeOf, numberOf, truthOf, contextOf, Held, redex, HeldUnder, searchAt, growsOf, isOver, overAt, written, Within, madeBy, turnedBy, lastRule, endOf, outcomeOf, meaning, Moment};
 ghost use Rattle.machine.specs.Acts.{Went, Stepped, Loaded, Gone, Sought, Summed};
 use routine::Form;
 use routine::Sizes;
@@ -122,7 +122,7 @@ const IF_FALSE: u64 = 7;
 
 const WHILE: u64 = 8;
 
-fn short(x: u8) -> u32
+fn u32_of_u8(x: u8) -> u32
     ensures { λ r. ⌜ r ≡ x ⌝ }
 {
     x as u32
@@ -226,7 +226,7 @@ pub fn write(a: Act, s: &mut [i32])
         Act::Push => {}
         Act::Rest => {}
         Act::Write(l, n) => {
-            s[routine::long(l)] = n;
+            s[routine::usize_of_u32(l)] = n;
         }
         Act::Over(_) => {}
     }
@@ -349,7 +349,7 @@ fn seek(b: &[u8], z: Sizes, s: &[i32], c: u32, top: Place) -> Turn
     ensures { λ r. ⌜ Sought (now (b .entry)) (now (s .entry)) c top r ⌝ }
 {
     if is_deref(routine::form_at(b, z, c)) {
-        let l = routine::wide(routine::arg_at(b, z, c));
+        let l = routine::usize_of_u8(routine::arg_at(b, z, c));
         under(Work::Int(s[l]), top, DEREF)
     } else {
         under(operand(b, z, c), top, SEARCH)
@@ -378,7 +378,7 @@ fn at_node(b: &[u8], z: Sizes, s: &[i32], i: u32) -> Turn
         Form::Geq => seek(b, z, s, routine::first_at(b, z, i), Place::GeqLeft(i)),
         Form::If => down(b, z, routine::first_at(b, z, i), Place::Test(i), SEARCH),
         Form::Assign => {
-            let l = short(routine::arg_at(b, z, i));
+            let l = u32_of_u8(routine::arg_at(b, z, i));
             seek(b, z, s, routine::first_at(b, z, i), Place::Store(l))
         }
         Form::Seq => {
@@ -387,7 +387,7 @@ fn at_node(b: &[u8], z: Sizes, s: &[i32], i: u32) -> Turn
         }
         Form::While => down(b, z, routine::first_at(b, z, i), Place::Again(i), WHILE),
         Form::Deref => {
-            let l = routine::wide(routine::arg_at(b, z, i));
+            let l = routine::usize_of_u8(routine::arg_at(b, z, i));
             comes_to(Work::Int(s[l]), Act::Rest, DEREF)
         }
         Form::Integer => comes_to(Work::Skip, Act::Rest, SEARCH),
@@ -448,7 +448,7 @@ fn at_value(b: &[u8], z: Sizes, s: &[i32], f: Place, x: Work) -> Turn
 
 // One act at the work x, f being the place on top where x is a value.
 fn act_at(b: &[u8], z: Sizes, s: &[i32], f: Place, x: Work) -> Turn
-    requires { ⌜ Runnable (now b) × Seen (now b) x × Stands (now b) x f × (locations (now b) ≤ length (now s)) × ((T : Ty) × (env (now b) ⊢ redex (now b) x f ∶ T)) × SizesOf (now b) z ⌝ }
+    requires { ⌜ Runnable (now b) × Seen (now b) x × HeldUnder (now b) x f × (locations (now b) ≤ length (now s)) × ((T : Ty) × (env (now b) ⊢ redex (now b) x f ∶ T)) × SizesOf (now b) z ⌝ }
     ensures { λ r. ⌜ Went (now (b .entry)) (searchAt (now (b .entry)) x f) (redex (now (b .entry)) x f) (now (s .entry)) (r .work) (r .act) (r .top) (r .rule) ⌝ }
 {
     if takes(x) == 0 {
@@ -461,7 +461,7 @@ fn act_at(b: &[u8], z: Sizes, s: &[i32], f: Place, x: Work) -> Turn
 impl Machine {
     // One act: a move of the search, or a step. The store is not written here: the act says what is to be written.
     pub fn step(mut self, f: Place, b: &[u8], z: Sizes, s: &[i32]) -> Next
-        requires { ⌜ Runnable (now b) × Seen (now b) (self .work) × Stands (now b) (self .work) f × (locations (now b) ≤ length (now s)) × ((T : Ty) × (env (now b) ⊢ redex (now b) (self .work) f ∶ T)) × SizesOf (now b) z ⌝ }
+        requires { ⌜ Runnable (now b) × Seen (now b) (self .work) × HeldUnder (now b) (self .work) f × (locations (now b) ≤ length (now s)) × ((T : Ty) × (env (now b) ⊢ redex (now b) (self .work) f ∶ T)) × SizesOf (now b) z ⌝ }
         requires { ⌜ (self .steps < 8589934592) × (self .loops < 8589934592) ⌝ }
         ensures { λ r. ⌜ Stepped (now (b .entry)) (searchAt (now (b .entry)) (self .work) f) (redex (now (b .entry)) (self .work) f) (now (s .entry)) self r ⌝ }
     {

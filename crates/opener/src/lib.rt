@@ -35,7 +35,7 @@ pub enum Laid {
     Whole,
 }
 
-fn wide(x: u16) -> usize
+fn usize_of_u16(x: u16) -> usize
     ensures { λ r. ⌜ (r ≡ x) × (r < 65536) ⌝ }
 {
     x as usize
@@ -48,7 +48,7 @@ fn read_head(b: &[u8]) -> Head
     if b.len() < 6 {
         return Head::Refused(Refusal::Short);
     }
-    let after = wide(routine::pair_at(b, 0));
+    let after = usize_of_u16(routine::pair_at(b, 0));
     if after + 2 != b.len() {
         return Head::Refused(Refusal::Count);
     }
@@ -58,7 +58,7 @@ fn read_head(b: &[u8]) -> Head
     if 64 < b[3] {
         return Head::Refused(Refusal::Locations);
     }
-    let n = wide(routine::pair_at(b, 4));
+    let n = usize_of_u16(routine::pair_at(b, 4));
     if n == 0 {
         return Head::Refused(Refusal::Nodes);
     }
@@ -97,7 +97,7 @@ fn entry(words: &[u32], mask: usize, j: u16) -> usize
     requires { ⌜ mask < length (now words) ⌝ }
     ensures { λ r. ⌜ (r ≡ under mask (now (words .entry)) j) × (r < 4294967296) ⌝ }
 {
-    routine::long(words[wide(j) & mask])
+    routine::usize_of_u32(words[usize_of_u16(j) & mask])
 }
 
 // How many children a form has, as `routine::digit_of` reads it, and the two forms that are not told by that: an integer's bytes 4-7 are a
@@ -120,7 +120,7 @@ fn stands(has: usize, more: bool, c: u16, i: usize, low: usize) -> bool
     requires { ⌜ (has ≤ 1) × (i < 65536) ⌝ }
     ensures { λ t. ⌜ t ≡ standsBy has more c i low ⌝ }
 {
-    wide(c) + has == pick(more, low, has * i)
+    usize_of_u16(c) + has == pick(more, low, has * i)
 }
 
 // Whether the children x, y and z of node i stand where they must, q and r being the lowest nodes under the second and the third.
@@ -192,7 +192,7 @@ fn lay(b: &[u8], n: usize, mask: usize, words: &mut [u32]) -> Laid
         words[i] = k as u32;
         i += 1;
     }
-    let root = routine::long(words[n - 1]);
+    let root = routine::usize_of_u32(words[n - 1]);
     if root % DEPTH != 0 {
         return Laid::Forest;
     }

@@ -110,13 +110,13 @@ pub struct Node {
     pub number: i32,
 }
 
-pub fn wide(x: u8) -> usize
+pub fn usize_of_u8(x: u8) -> usize
     ensures { λ r. ⌜ (r ≡ x) × (r < 256) ⌝ }
 {
     x as usize
 }
 
-pub fn long(x: u32) -> usize
+pub fn usize_of_u32(x: u32) -> usize
     ensures { λ r. ⌜ (r ≡ x) × (r < 4294967296) ⌝ }
 {
     x as usize
@@ -127,7 +127,7 @@ pub fn pair_at(b: &[u8], at: usize) -> u16
     requires { ⌜ at + 1 < length (now b) ⌝ }
     ensures { λ r. ⌜ r ≡ pair (now (b .entry)) at ⌝ }
 {
-    (wide(b[at]) * 256 + wide(b[at + 1])) as u16
+    (usize_of_u8(b[at]) * 256 + usize_of_u8(b[at + 1])) as u16
 }
 
 pub fn form_of(kind: u8) -> Form

@@ -49,7 +49,7 @@ fn run_open(b: &[u8], z: Sizes, s: &mut [i32], fuel: u32) -> Ran
     match checker::types(b, z) {
         Typed::Fault(c, i) => Ran::Refused(checker::refusal_of(c, i)),
         Typed::All(_) => {
-            if s.len() < routine::wide(z.locations) {
+            if s.len() < routine::usize_of_u8(z.locations) {
                 return Ran::Refused(Refusal::Store);
             }
             run_typed(b, z, s, fuel)

@@ -7,7 +7,7 @@ use lib.ListN.{length}
 use Rattle.l1.specs.Syntax.{Expr}
 use Rattle.l1.specs.Store.{Store}
 use Rattle.l1.specs.Run.{Run, stay, more, Outcome, value, overflow, fuel, answer, Yields}
-use Rattle.l1.specs.Text.{bytes, decimal, number, text, ruleName}
+use Rattle.l1.specs.Text.{bytes, decimal, integer, text, ruleName}
 use Rattle.stored.specs.Bytes.{pair, signed}
 use Rattle.stored.specs.Refusals.{Refusal, no, no-with, locations, Holds, routine, after-routine, GivenTrace, Lowest}
 use Rattle.stored.specs.Answers.{Nothing}
@@ -33,17 +33,17 @@ abbrev pub newline : List ℕ
 newline = 10 ∷ []
 
 -- "A text over 8,192 bytes is printed as `#` with its length directly after"
-abbrev pub shown : List ℕ → List ℕ
-shown t = cond (ltb 8192 (length t)) (bytes "#" ++ decimal (length t)) t
+abbrev pub shortened : List ℕ → List ℕ
+shortened t = cond (ltb 8192 (length t)) (bytes "#" ++ decimal (length t)) t
 
 -- "each location's value after one space"
 abbrev pub values : Store → List ℕ
 values [] = []
-values (n ∷ s) = bytes " " ++ number n ++ values s
+values (n ∷ s) = bytes " " ++ integer n ++ values s
 
 -- "step number, rule (`start` at 0), text, ` |`, then each location's value after one space"
 abbrev pub moment : ℕ → List ℕ → Expr → Store → List ℕ
-moment k rule e s = decimal k ++ bytes " " ++ rule ++ bytes " " ++ shown (text e) ++ bytes " |" ++ values s ++ newline
+moment k rule e s = decimal k ++ bytes " " ++ rule ++ bytes " " ++ shortened (text e) ++ bytes " |" ++ values s ++ newline
 
 -- "One line a moment": a line after each step, the steps before the first of them being k
 abbrev pub moments : {T K : ℕ} {e e′ : Expr} {s s′ : Store} → ℕ → Run T K e s e′ s′ → List (List ℕ)

@@ -5,7 +5,7 @@ ghost use Prim.Native.Nat.{_≤_};
 ghost use lib.ListN.{length};
 use libc::STDOUT_FILENO;
 use routine::Refusal;
-use texter::Wrote;
+use text_after::Wrote;
 
 // What each byte of a buffer is before a call.
 const UNTOUCHED: u8 = 35;
@@ -50,7 +50,7 @@ fn print_written(text: &[u8], steps: u64) {
 fn print_text(b: &[u8], s: &[i32], k: u32, buf: &mut [u8]) -> usize
     ensures { λ r. ⌜ r ≤ length (now (buf .entry)) ⌝ }
 {
-    match texter::text(b, s, k, buf) {
+    match text_after::text(b, s, k, buf) {
         Wrote::Refused(r) => {
             print_refused(r);
             0

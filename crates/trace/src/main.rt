@@ -7,5 +7,5 @@ fn main() {
     let mut input = [0u8; 33035];
     let n = io::read_full(STDIN_FILENO, &mut input);
     let mut buf = io::large_buffer();
-    printer::print(&input[..n], &mut buf);
+    trace_output::print(&input[..n], &mut buf);
 }

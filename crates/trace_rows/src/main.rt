@@ -33,7 +33,7 @@ fn one_row(head: &mut [u8], room: &mut [u8], buf: &mut [u8]) -> bool
     if rows::take(room, bytes) < bytes {
         return false;
     }
-    printer::print(&room[..values + entries], buf);
+    trace_output::print(&room[..values + entries], buf);
     true
 }
 

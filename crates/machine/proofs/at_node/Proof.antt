@@ -114,7 +114,7 @@ at-node-spec =
     (λ c κs. there (c .before .before))
     (λ c κs. search needs)
     (λ c. search needs)
-    (λ c. in-store (c .before .before .before .before) (c .before .before .enum-told7 .given .1) (c .wide .ensures .0 ∙ c .before .arg-at2 .ensures))
+    (λ c. in-store (c .before .before .before .before) (c .before .before .enum-told7 .given .1) (c .usize-of-u8 .ensures .0 ∙ c .before .arg-at2 .ensures))
     (λ c κs. search needs)
     -- literals
     (λ c. search needs)
@@ -143,7 +143,7 @@ at-node-spec =
     down (ok f) (lt f) (is f told) refl (lt f, child f refl (kids f told .1), child f refl (kids f told .2)) (omega arith) gone)
     (λ c.
     let f = c .before .before .before .before .before .before in
-    let location = c .before .before .short .ensures ∙ c .before .before .before .arg-at .ensures in
+    let location = c .before .before .u32-of-u8 .ensures ∙ c .before .before .before .arg-at .ensures in
     let gone = sought-by (c .before .first-at4 .ensures) (ap p.Store location) (c .seek3 .ensures) in
     seeks (ok f) (lt f) (is f (c .before .before .before .before .enum-told4 .given .1)) refl tt (omega arith) gone)
     (λ c.
@@ -159,7 +159,7 @@ at-node-spec =
     (λ c.
     let f = c .before .before .before .before .before .before in
     let told = c .before .before .before .before .enum-told7 .given .1 in
-    let location = c .before .before .wide .ensures .0 ∙ c .before .before .before .arg-at2 .ensures in
+    let location = c .before .before .usize-of-u8 .ensures .0 ∙ c .before .before .before .arg-at2 .ensures in
     came-to
     (c .comes-to .ensures)
     (derefs (ok f) (lt f) (is f told) location (in-store f told location) (sym (toZ-ofZ w32 _ (search needs)))))

@@ -18,17 +18,17 @@ use Rattle.machine.proofs.seek.Statement.{statement}
 use Rattle.machine.proofs.seek.Tie as tie
 
 -- what is known once the operand's location was read
-module _ (c : tie.After-wide) where
+module _ (c : tie.After-usize-of-u8) where
   abbrev test : tie.After-is-deref
   test = c .before .before .before
 
   is : formOf (kind (now (test .before .before .before .args .b)) (test .before .before .before .args .c)) ≡ Deref
   is = sym (test .before .form-at .ensures) ∙ deref-told _ (sym (test .is-deref .ensures) ∙ c .before .before .if1 .taken)
 
-  location : c .wide .result ≡ arg (now (test .before .before .before .args .b)) (test .before .before .before .args .c)
-  location = c .wide .ensures .0 ∙ c .before .arg-at .ensures
+  location : c .usize-of-u8 .result ≡ arg (now (test .before .before .before .args .b)) (test .before .before .before .args .c)
+  location = c .usize-of-u8 .ensures .0 ∙ c .before .arg-at .ensures
 
-  in-store : c .wide .result < length (now (test .before .before .before .args .s))
+  in-store : c .usize-of-u8 .result < length (now (test .before .before .before .args .s))
   in-store =
       let z = test .before .before .before in
       below location (lt-of-lt-of-le (deref-below (z .pre .0) (z .pre .1) is (z .pre .3)) (z .pre .2))
@@ -38,7 +38,7 @@ reads c =
     let k = c .before .before in
     let z = k .before .before .before .before .before .before in
     let (work, act, top, rule) = c .under .ensures in
-    read-there {l = k .wide .result}
+    read-there {l = k .usize-of-u8 .result}
     (deref-tree (z .pre .0) (z .pre .1) (is k) (location k))
     (in-store k)
     (work ∙ ap w.Int (toZ-ofZ w32 _ (search needs)))

@@ -22,10 +22,10 @@ write-spec =
     (λ c.
     let start = c .before .before .before .before in
     let within = subst (Within (length (now (start .args .s)))) (c .before .before .a .given .1) (start .pre) in
-    omega (arith, c .long .ensures .0))
+    omega (arith, c .usize-of-u32 .ensures .0))
     (λ c. search needs)
     (λ c. search needs)
     (λ c. search needs)
     (λ c. search needs)
-    (λ c. rw (c .before .before .a .given .1, c .long .ensures .0, toZ-ofZ w32 (c .before .before .a .given .0 .1 .0) (search needs)))
+    (λ c. rw (c .before .before .a .given .1, c .usize-of-u32 .ensures .0, toZ-ofZ w32 (c .before .before .a .given .0 .1 .0) (search needs)))
     (λ c. search needs))

@@ -10,7 +10,7 @@ entry-spec =
     tie.close
     (tie.spec
     (λ c κs. search needs)
-    (λ c. record { fits = omega (arith, and-le-r (c .wide .result) (c .before .before .args .mask)) })
-    (λ c. omega (arith, and-le-r (c .before .wide .result) (c .before .before .before .args .mask)))
+    (λ c. record { fits = omega (arith, and-le-r (c .usize-of-u16 .result) (c .before .before .args .mask)) })
+    (λ c. omega (arith, and-le-r (c .before .usize-of-u16 .result) (c .before .before .before .args .mask)))
     (λ c κs. search needs)
-    (λ c. (rw (c .long .ensures .0, c .before .before .wide .ensures .0), omega arith)))
+    (λ c. (rw (c .usize-of-u32 .ensures .0, c .before .before .usize-of-u16 .ensures .0), omega arith)))

@@ -54,7 +54,7 @@ again c =
       next-passed _ (h .loop .words) (h .loop .i) _ (h .loop .inv .2) (low h (omega arith)) _ (omega arith) (next c .0) (next c .1),
     )
 
-abbrev at-end : tie.After-long Inv-loop μ-loop → tie.At-loop Inv-loop μ-loop
+abbrev at-end : tie.After-usize-of-u32 Inv-loop μ-loop → tie.At-loop Inv-loop μ-loop
 at-end c = c .before .before .before
 
 fewer : tie.Need-returns-2 Inv-loop μ-loop

@@ -1,0 +1,242 @@
+// Measures and writes the text of a moment: what opens its pending places, the work, and what closes them.
+//
+// A moment's text can be megabytes long, since each loop under way holds a copy of its body; so it is measured from a table of the nodes' lengths,
+// at a cost by its places alone, before it is written.
+ghost use mathlib.Core.Path.{_≡_};
+ghost use mathlib.Core.List.{_++_};
+ghost use Prim.Native.Nat.{_+_, _≤_, _<_};
+ghost use lib.ListN.{length};
+ghost use Rattle.l1.specs.Text.{bytes, integer, text};
+ghost use Rattle.stored.specs.Refusals.{count};
+ghost use Rattle.routine.specs.Open.{Runnable, SizesOf};
+ghost use Rattle.machine.specs.State.{exprOf, Seen, Held, contextOf, stack};
+ghost use Rattle.stepper.specs.Lent.{placeOf, framesOf};
+ghost use Rattle.node_text.specs.Put.{Put};
+ghost use Rattle.node_text.specs.Texts.{textAt};
+ghost use Rattle.moment_text.specs.Around.{closing, closes, openingOf, opensOf};
+ghost use Rattle.moment_text.specs.Stand.{Stands, Measured, momentText};
+use machine::Place;
+use machine::Work;
+use routine::Sizes;
+
+// An integer to the left of an operator.
+fn put_left(n: i32, sign: &[u8], buf: &mut [u8], at: usize) -> usize
+    requires { ⌜ at + length (bytes "(" ++ integer n ++ now sign) ≤ length (now buf) ⌝ }
+    ensures { λ r. ⌜ Put (now (buf .entry)) at (bytes "(" ++ integer n ++ now (sign .entry)) (now (buf .exit)) r ⌝ }
+{
+    let p = node_text::put_byte(40, buf, at);
+    let q = node_text::put_number(n, buf, p);
+    node_text::put_bytes(sign, buf, q)
+}
+
+fn put_opening(f: Place, buf: &mut [u8], at: usize) -> usize
+    requires { ⌜ at + length (openingOf f) ≤ length (now buf) ⌝ }
+    ensures { λ r. ⌜ Put (now (buf .entry)) at (openingOf f) (now (buf .exit)) r ⌝ }
+{
+    match f {
+        Place::Blank => node_text::put_bytes(b"(", buf, at),
+        Place::PlusLeft(_) => node_text::put_bytes(b"(", buf, at),
+        Place::GeqLeft(_) => node_text::put_bytes(b"(", buf, at),
+        Place::PlusRight(_, n) => put_left(n, b" + ", buf, at),
+        Place::GeqRight(_, n) => put_left(n, b" >= ", buf, at),
+        Place::Test(_) => node_text::put_bytes(b"(if ", buf, at),
+        Place::Again(_) => node_text::put_bytes(b"(if ", buf, at),
+        Place::Store(l) => node_text::put_assigned(l as u64, buf, at),
+        Place::First(_) => node_text::put_bytes(b"(", buf, at),
+    }
+}
+
+// What is to the right of an operator or a semicolon.
+fn put_right(b: &[u8], z: Sizes, sign: &[u8], c: u32, buf: &mut [u8], at: usize) -> usize
+    requires { ⌜ Runnable (now b) × (c < count (now b)) × (at + length (now sign ++ textAt (now b) c ++ bytes ")") ≤ length (now buf)) × SizesOf (now b) z ⌝ }
+    ensures { λ r. ⌜ Put (now (buf .entry)) at (now (sign .entry) ++ textAt (now (b .entry)) c ++ bytes ")") (now (buf .exit)) r ⌝ }
+{
+    let p = node_text::put_bytes(sign, buf, at);
+    let q = node_text::put_tree(b, z, c, buf, p);
+    node_text::put_byte(41, buf, q)
+}
+
+// The branches of an if, behind its test.
+fn put_branches(b: &[u8], z: Sizes, i: u32, buf: &mut [u8], at: usize) -> usize
+    requires { ⌜ Runnable (now b) × Held (now b) (Place.Test i) × (at + length (closing (contextOf (now b) (Place.Test i))) ≤ length (now buf)) × SizesOf (now b) z ⌝ }
+    ensures { λ r. ⌜ Put (now (buf .entry)) at (closing (contextOf (now (b .entry)) (Place.Test i))) (now (buf .exit)) r ⌝ }
+{
+    let p = node_text::put_bytes(b" then ", buf, at);
+    let q = node_text::put_tree(b, z, routine::second_at(b, z, i), buf, p);
+    put_right(b, z, b" else ", routine::third_at(b, z, i), buf, q)
+}
+
+// The branches of the if that a loop became: its body with the loop again, and skip.
+fn put_again(b: &[u8], z: Sizes, i: u32, buf: &mut [u8], at: usize) -> usize
+    requires { ⌜ Runnable (now b) × Held (now b) (Place.Again i) × (at + length (closing (contextOf (now b) (Place.Again i))) ≤ length (now buf)) × SizesOf (now b) z ⌝ }
+    ensures { λ r. ⌜ Put (now (buf .entry)) at (closing (contextOf (now (b .entry)) (Place.Again i))) (now (buf .exit)) r ⌝ }
+{
+    let p = node_text::put_bytes(b" then (", buf, at);
+    let q = node_text::put_tree(b, z, routine::second_at(b, z, i), buf, p);
+    let r = put_right(b, z, b" ; ", i, buf, q);
+    node_text::put_bytes(b" else skip)", buf, r)
+}
+
+fn put_closing(b: &[u8], z: Sizes, f: Place, buf: &mut [u8], at: usize) -> usize
+    requires { ⌜ Runnable (now b) × Held (now b) f × (at + length (closing (contextOf (now b) f)) ≤ length (now buf)) × SizesOf (now b) z ⌝ }
+    ensures { λ r. ⌜ Put (now (buf .entry)) at (closing (contextOf (now (b .entry)) f)) (now (buf .exit)) r ⌝ }
+{
+    match f {
+        Place::Blank => node_text::put_bytes(b" ; skip)", buf, at),
+        Place::PlusLeft(i) => put_right(b, z, b" + ", routine::second_at(b, z, i), buf, at),
+        Place::GeqLeft(i) => put_right(b, z, b" >= ", routine::second_at(b, z, i), buf, at),
+        Place::PlusRight(_, _) => node_text::put_bytes(b")", buf, at),
+        Place::GeqRight(_, _) => node_text::put_bytes(b")", buf, at),
+        Place::Test(i) => put_branches(b, z, i, buf, at),
+        Place::Again(i) => put_again(b, z, i, buf, at),
+        Place::Store(_) => node_text::put_bytes(b")", buf, at),
+        Place::First(j) => put_right(b, z, b" ; ", j, buf, at),
+    }
+}
+
+fn put_work(b: &[u8], z: Sizes, x: Work, buf: &mut [u8], at: usize) -> usize
+    requires { ⌜ Runnable (now b) × Seen (now b) x × (at + length (text (exprOf (now b) x)) ≤ length (now buf)) × SizesOf (now b) z ⌝ }
+    ensures { λ r. ⌜ Put (now (buf .entry)) at (text (exprOf (now (b .entry)) x)) (now (buf .exit)) r ⌝ }
+{
+    match x {
+        Work::Node(i) => node_text::put_tree(b, z, i as u32, buf, at),
+        Work::Int(n) => node_text::put_number(n, buf, at),
+        Work::Bool(t) => node_text::put_truth(t, buf, at),
+        Work::Skip => node_text::put_bytes(b"skip", buf, at),
+    }
+}
+
+// What opens the places below h, the outermost first.
+fn put_opens(
+    tags: &[u8],
+    nodes: &[u32],
+    integers: &[i32],
+    h: usize,
+    buf: &mut [u8],
+    at: usize,
+) -> usize
+    requires { ⌜ (h ≤ 256) × (length (framesOf (now tags) (now nodes) (now integers)) ≡ 256) × (at + length (opensOf (framesOf (now tags) (now nodes) (now integers)) h) ≤ length (now buf)) ⌝ }
+    ensures { λ r. ⌜ Put (now (buf .entry)) at (opensOf (framesOf (now (tags .entry)) (now (nodes .entry)) (now (integers .entry))) h) (now (buf .exit)) r ⌝ }
+{
+    let mut p = at;
+    let mut j = 0;
+    while j < h {
+        let f = stepper::place_of(tags[j], nodes[j], integers[j]);
+        p = put_opening(f, buf, p);
+        j += 1;
+    }
+    p
+}
+
+// What closes them, the innermost first.
+fn put_closes(
+    b: &[u8],
+    z: Sizes,
+    tags: &[u8],
+    nodes: &[u32],
+    integers: &[i32],
+    h: usize,
+    x: Work,
+    buf: &mut [u8],
+    at: usize,
+) -> usize
+    requires { ⌜ Stands (now b) (framesOf (now tags) (now nodes) (now integers)) h x × (at + length (closes (stack (now b) (framesOf (now tags) (now nodes) (now integers)) h)) ≤ length (now buf)) × SizesOf (now b) z ⌝ }
+    ensures { λ r. ⌜ Put (now (buf .entry)) at (closes (stack (now (b .entry)) (framesOf (now (tags .entry)) (now (nodes .entry)) (now (integers .entry))) h)) (now (buf .exit)) r ⌝ }
+{
+    let mut p = at;
+    let mut j = h;
+    while 0 < j {
+        j -= 1;
+        let f = stepper::place_of(tags[j], nodes[j], integers[j]);
+        p = put_closing(b, z, f, buf, p);
+    }
+    p
+}
+
+pub fn put_moment(
+    b: &[u8],
+    z: Sizes,
+    tags: &[u8],
+    nodes: &[u32],
+    integers: &[i32],
+    h: usize,
+    x: Work,
+    buf: &mut [u8],
+    at: usize,
+) -> usize
+    requires { ⌜ Stands (now b) (framesOf (now tags) (now nodes) (now integers)) h x × (at + length (momentText (now b) (framesOf (now tags) (now nodes) (now integers)) h x) ≤ length (now buf)) × SizesOf (now b) z ⌝ }
+    ensures { λ r. ⌜ Put (now (buf .entry)) at (momentText (now (b .entry)) (framesOf (now (tags .entry)) (now (nodes .entry)) (now (integers .entry))) h x) (now (buf .exit)) r ⌝ }
+{
+    let p = put_opens(tags, nodes, integers, h, buf, at);
+    let q = put_work(b, z, x, buf, p);
+    put_closes(b, z, tags, nodes, integers, h, x, buf, q)
+}
+
+// The length of what opens and closes a place.
+fn place_length(b: &[u8], z: Sizes, f: Place, lengths: &[u32]) -> usize
+    requires { ⌜ Runnable (now b) × Held (now b) f × Measured (now b) (now lengths) × SizesOf (now b) z ⌝ }
+    ensures { λ r. ⌜ (r ≡ length (openingOf f) + length (closing (contextOf (now (b .entry)) f))) × (r ≤ 400000) ⌝ }
+{
+    match f {
+        Place::Blank => 9,
+        Place::PlusLeft(i) => 5 + node_text::length_in(lengths, routine::second_at(b, z, i)),
+        Place::GeqLeft(i) => 6 + node_text::length_in(lengths, routine::second_at(b, z, i)),
+        Place::PlusRight(_, n) => 5 + node_text::number_width(n),
+        Place::GeqRight(_, n) => 6 + node_text::number_width(n),
+        Place::Test(i) => {
+            let t = node_text::length_in(lengths, routine::second_at(b, z, i));
+            17 + t + node_text::length_in(lengths, routine::third_at(b, z, i))
+        }
+        Place::Again(i) => {
+            let t = node_text::length_in(lengths, routine::second_at(b, z, i));
+            26 + t + node_text::length_in(lengths, i)
+        }
+        Place::Store(l) => 7 + node_text::width(l as u64),
+        Place::First(j) => 5 + node_text::length_in(lengths, j),
+    }
+}
+
+// The same from the lent slices. A moment with many loops under way has little else than places of the tag 8, a first part: they are asked for before the others.
+fn lent_length(b: &[u8], z: Sizes, tag: u8, i: u32, n: i32, lengths: &[u32]) -> usize
+    requires { ⌜ Runnable (now b) × Held (now b) (placeOf tag i n) × Measured (now b) (now lengths) × SizesOf (now b) z ⌝ }
+    ensures { λ r. ⌜ (r ≡ length (openingOf (placeOf tag i n)) + length (closing (contextOf (now (b .entry)) (placeOf tag i n)))) × (r ≤ 400000) ⌝ }
+{
+    if tag == 8 {
+        return 5 + node_text::length_in(lengths, i);
+    }
+    place_length(b, z, stepper::place_of(tag, i, n), lengths)
+}
+
+fn work_length(b: &[u8], x: Work, lengths: &[u32]) -> usize
+    requires { ⌜ Runnable (now b) × Seen (now b) x × Measured (now b) (now lengths) ⌝ }
+    ensures { λ r. ⌜ (r ≡ length (text (exprOf (now (b .entry)) x))) × (r ≤ 200000) ⌝ }
+{
+    match x {
+        Work::Node(i) => node_text::length_in(lengths, i as u32),
+        Work::Int(n) => node_text::number_width(n),
+        Work::Bool(t) => node_text::truth_width(t),
+        Work::Skip => 4,
+    }
+}
+
+pub fn moment_length(
+    b: &[u8],
+    z: Sizes,
+    tags: &[u8],
+    nodes: &[u32],
+    integers: &[i32],
+    h: usize,
+    x: Work,
+    lengths: &[u32],
+) -> usize
+    requires { ⌜ Stands (now b) (framesOf (now tags) (now nodes) (now integers)) h x × Measured (now b) (now lengths) × SizesOf (now b) z ⌝ }
+    ensures { λ r. ⌜ (r ≡ length (momentText (now (b .entry)) (framesOf (now (tags .entry)) (now (nodes .entry)) (now (integers .entry))) h x)) × (r < 1000000000) ⌝ }
+{
+    let mut r = work_length(b, x, lengths);
+    let mut j = 0;
+    while j < h {
+        r += lent_length(b, z, tags[j], nodes[j], integers[j], lengths);
+        j += 1;
+    }
+    r
+}

@@ -1,0 +1,3 @@
+-- What the tracer promises.
+pub mod Lines  -- the lines of a run, as far as it has come
+pub mod Says  -- what is left in the buffer, and where the run stands then

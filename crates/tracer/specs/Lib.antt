@@ -1,3 +1,0 @@
--- What the tracer promises.
-pub mod Told  -- the lines of a run, as far as it has come
-pub mod Says  -- what is left in the buffer, and where the run stands then
