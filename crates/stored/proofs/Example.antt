@@ -14,11 +14,13 @@ use Rattle.l1.specs.Text.{bytes, digits, text}
 use Rattle.l1.specs.Refused.{Node, first, later}
 use Rattle.stored.specs.Bytes.{signed}
 use Rattle.stored.specs.Stored.{nodesFrom, stored, Storable}
-use Rattle.stored.specs.Refusals.{env, Holds, GivenTrace, by-its-routine, given-40}
-use Rattle.stored.specs.Answers.{Opens, Nothing}
+use Rattle.stored.specs.Stages.{Passes}
+use Rattle.stored.specs.Refusals.{env, Holds, lent-input, tracing}
+use Rattle.stored.specs.Answers.{Opens}
 use Rattle.stored.specs.Trace.{newline, Prints, prints-run}
 use Rattle.stored.proofs.ReadBack.{tree-reads, stored-opens}
-use Rattle.stored.proofs.Acceptance.{nothing-given}
+use Rattle.stored.proofs.Stages.{when-silent, passes-nothing, passes-more}
+use Rattle.stored.proofs.Admission.{admitted}
 
 abbrev pub example : Expr
 example = 0 := ((! 0) ‹ plus # 2 › int (pos 25))
@@ -84,9 +86,8 @@ typed =
 abbrev pub example-input : List ℕ
 example-input = example-bytes ++ 0x00 ∷ 0x00 ∷ 0x00 ∷ 0x0A ∷ 0x00 ∷ 0x00 ∷ 0x07 ∷ 0x53 ∷ []
 
-not-refused : Nothing (GivenTrace example-input)
-not-refused r (by-its-routine g) = nothing-given opens holds typed r g
-not-refused r (given-40 h) = h refl
+not-refused : Passes (tracing example-input)
+not-refused = admitted opens holds (lent-input example-bytes 8) typed (passes-more (when-silent (λ h. h refl)) passes-nothing)
 
 abbrev pub example-lines : List (List ℕ)
 example-lines =

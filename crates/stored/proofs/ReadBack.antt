@@ -3,6 +3,7 @@ use Prim.Native.Nat.{ℕ, _+_, _-_, _*_, _≤_, _<_}
 use native.Mathlib.Omega.{arith}
 use native.Mathlib.Nat.{div-add-mod'}
 use mathlib.Core.Path.{_≡_, refl, sym, _∙_, ap}
+use mathlib.Core.Logic.{⊎-elim}
 use mathlib.Core.List.{List, [], _∷_, _++_}
 use lib.ListN.{length, length-append}
 use lib.Seq.{take-all}
@@ -10,18 +11,17 @@ use Rattle.l1.specs.Syntax.{Expr, int, bool, _‹_#_›_, if_then_else_, _:=_, 
 use Rattle.l1.specs.Measures.{size, depth}
 use Rattle.l1.specs.Refused.{nodes, first, Node}
 use Rattle.l1.proofs.Nodes.{nth-right, nth-some, nodes-length, size-positive}
-use Rattle.l1.proofs.Verdict.{refused-number}
 use Rattle.stored.specs.Bytes.{byte, pair, unsigned, signed}
 use Rattle.stored.specs.Stored.{node, opKind, rootFrom, nodesFrom, stored, Storable}
 use Rattle.stored.specs.Layout.{start, NodeIs, TreeAt, at-int, at-bool, at-op, at-if, at-assign, at-deref, at-skip, at-seq, at-while}
-use Rattle.stored.specs.Refusals.{Refusal, number, locations, count, Holds}
-use Rattle.stored.specs.Refusals.{Given, given-1, given-2, given-3, given-4, given-5-none, given-5-over, given-6, given-7, given-8, given-9, given-type}
+use Rattle.stored.specs.Refusals.{locations, count, Holds, Breaks}
 use Rattle.stored.proofs.Fits.{Fits, storable-fits, fits-left, fits-first, fits-second, fits-rest}
 use Rattle.stored.specs.Answers.{Opens}
 use Rattle.stored.proofs.Parts.{part, part-split, part-node}
 use Rattle.stored.proofs.Signed.{signed-unsigned}
 use Rattle.stored.proofs.Subtrees.{subtrees}
 use Rattle.stored.proofs.Reader.{holds-unique}
+use Rattle.stored.proofs.Stages.{when-silent, at-silent, passes-nothing, passes-more}
 
 pub nodes-bytes : (e : Expr) (f : ℕ) → length (nodesFrom f e) ≡ 8 * size e
 unfolding nodesFrom
@@ -156,19 +156,25 @@ module _ (m : ℕ) (e : Expr) where
         let z : 0 + i ≡ i = omega arith in
         rw z at (subtrees (stored m e) (tree-reads .tree) 0 (omega arith) .stands i d h)
 
-    not-given : {r : Refusal} → Given (stored m e) r → number r < 10 → ⊥
-    not-given (given-1 h) l = omega (arith, stored-length)
-    not-given (given-2 h) l = h (omega (arith, stored-length, stored-pair))
-    not-given (given-3 h) l = h stored-version
-    not-given (given-4 h) l = omega (arith, stored-locations, s .few-locations)
-    not-given (given-5-none h) l = omega (arith, stored-count, size-positive e)
-    not-given (given-5-over h) l = omega (arith, stored-count, s .few-nodes)
-    not-given (given-6 h) l = h (omega (arith, stored-count, stored-pair))
-    not-given (given-7 {i} lt before none) l =
-        let d = nth-some (nodes e) i (omega (arith, nodes-length e, stored-count)) in none (d .0) (node-reads (d .1))
-    not-given (given-8 h lt) l = omega (arith, stored-count, ap size (holds-unique (stored m e) tree-reads h))
-    not-given (given-9 h lt) l = omega (arith, s .shallow, ap depth (holds-unique (stored m e) tree-reads h))
-    not-given (given-type h r) l = omega (arith, refused-number r)
+    -- no node breaks the layout: at each of them a tree stands
+    none-breaks : (i : ℕ) → ¬ Breaks (stored m e) i
+    none-breaks i x =
+        let d = nth-some (nodes e) i (omega (arith, nodes-length e, stored-count, x .in-routine)) in x .none-stands (d .0) (node-reads (d .1))
 
     pub stored-opens : Opens (stored m e)
-    stored-opens r l g = not-given g l
+    stored-opens =
+        let same : (d : Expr) → Holds (stored m e) d → e ≡ d = λ d h. holds-unique (stored m e) tree-reads h in
+        let p = size-positive e in
+        record {
+          passes =
+              passes-more (when-silent (λ h. omega (arith, stored-length)))
+              (passes-more (when-silent (λ h. h (omega (arith, stored-length, stored-pair))))
+              (passes-more (when-silent (λ h. h stored-version))
+              (passes-more (when-silent (λ h. omega (arith, stored-locations, s .few-locations)))
+              (passes-more (when-silent (⊎-elim (λ h. omega (arith, stored-count)) (λ h. omega (arith, stored-count, s .few-nodes))))
+              (passes-more (when-silent (λ h. h (omega (arith, stored-count, stored-pair))))
+              (passes-more (at-silent none-breaks)
+              (passes-more (when-silent (λ (d, h, l). omega (arith, stored-count, ap size (same d h))))
+              (passes-more (when-silent (λ (d, h, l). omega (arith, s .shallow, ap depth (same d h))))
+              passes-nothing))))))));
+        }

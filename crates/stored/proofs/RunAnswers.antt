@@ -7,31 +7,22 @@ use lib.ListN.{length}
 use Rattle.l1.specs.Syntax.{Loc, Expr, Value, Ty}
 use Rattle.l1.specs.Store.{Store, lookup}
 use Rattle.l1.specs.Typing.{_⊢_∶_}
-use Rattle.l1.specs.Refused.{Verdict, Judged, has-type, has-none}
 use Rattle.l1.specs.Run.{Run, Outcome, value, fuel, Answer, answer, Yields}
 use Rattle.l1.specs.Measures.{working, loops, limit}
 use Rattle.l1.specs.Sets.{writing, writes, _∈_}
-use Rattle.l1.proofs.Verdict.{verdict-judged}
 use Rattle.l1.proofs.Declared.{uses-declared}
 use Rattle.l1.proofs.Runs.{run-keeps-type, run-keeps-locations, run-keeps-others}
 use Rattle.l1.proofs.Outcomes.{some-answer, answer-counts-steps, answer-within-limit, no-loop-comes-to-its-end, EndsWith, with-value, answer-ends}
-use Rattle.stored.specs.Refusals.{Refusal, locations, env, Holds, Given, given-type, GivenRun, by-routine, given-30}
-use Rattle.stored.specs.Answers.{Opens, Nothing, Ran, ran, Runs, run-refuses, run-yields}
+use Rattle.stored.specs.Stages.{Refusal, Passes}
+use Rattle.stored.specs.Refusals.{locations, env, Holds, lent-store}
+use Rattle.stored.specs.Answers.{Opens, Ran, ran, Runs, run-refuses, run-yields}
 use Rattle.stored.proofs.Reader.{holds-unique}
-use Rattle.stored.proofs.Acceptance.{nothing-given}
-
--- where nothing is refused, the tree has a type
-pub accepted-has-type : {b : List ℕ} {e : Expr} → Nothing (Given b) → Holds b e → (T : Ty) × (env b ⊢ e ∶ T)
-accepted-has-type {b} {e} none h = by-verdict (verdict-judged (env b) e)
-  where
-    by-verdict : {v : Verdict} → Judged (env b) e v → (T : Ty) × (env b ⊢ e ∶ T)
-    by-verdict (has-type {T} t) = (T, t)
-    by-verdict (has-none r) = absurd (none _ (given-type h r))
+use Rattle.stored.proofs.Stages.{when-silent, passes-nothing, passes-more}
+use Rattle.stored.proofs.Admission.{admitted-typed, admitted}
 
 -- a store that has the routine's locations adds no refusal
-pub nothing-given-run : {b : List ℕ} {s : Store} → Nothing (Given b) → locations b ≤ length s → Nothing (GivenRun b s)
-nothing-given-run none c r (by-routine g) = none r g
-nothing-given-run none c _ (given-30 l) = omega arith
+pub store-passes : (b : List ℕ) {entries : ℕ} → locations b ≤ entries → Passes (lent-store b entries)
+store-passes b c = passes-more (when-silent (λ l. omega arith)) passes-nothing
 
 module _ {b : List ℕ} {s : Store} where
   -- of a typed tree and such a store, the run has an answer with every fuel
@@ -40,7 +31,7 @@ module _ {b : List ℕ} {s : Store} where
   run-exists {e} f ok h t c = by-answer (some-answer f c t)
     where
       by-answer : (a : Answer) × Yields f e s a → (o : Outcome) × (T : ℕ) × (K : ℕ) × (s′ : Store) × Runs b s f (ran o T K) s′
-      by-answer (answer o T K e′ s′, y) = (o, T, K, s′, run-yields (nothing-given-run (nothing-given ok h t) c) h y)
+      by-answer (answer o T K e′ s′, y) = (o, T, K, s′, run-yields (admitted ok h (lent-store b (length s)) t (store-passes b c)) h y)
 
   pub refusal-keeps-store : {f : ℕ} {r : Refusal} {s′ : Store} → Runs b s f (Ran.refuses r) s′ → s′ ≡ s
   refusal-keeps-store (run-refuses l) = refl
@@ -58,7 +49,7 @@ module _ {b : List ℕ} {s : Store} where
   pub run-keeps-undeclared : {f : ℕ} {a : Ran} {s′ : Store} → Runs b s f a s′ → (l : Loc) → locations b ≤ l → lookup s′ l ≡ lookup s l
   run-keeps-undeclared (run-refuses k) l m = refl
   run-keeps-undeclared (run-yields none h y) l m =
-      let (U, t) = accepted-has-type (λ r g. none r (by-routine g)) h in
+      let (U, t) = admitted-typed none h in
       run-keeps-others (answer-counts-steps y .0) (λ w. let k = uses-declared writing t .each l w .below in omega arith)
 
 -- what the outcome, T and K say of the tree that the bytes hold

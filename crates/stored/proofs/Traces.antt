@@ -3,15 +3,18 @@ use Prim.Native.Nat.{ℕ, suc}
 use native.Mathlib.Omega.{arith}
 use mathlib.Core.Path.{_≡_, refl, ap, ap₂}
 use mathlib.Core.List.{List, [], _∷_, _++_}
+use lib.ListN.{length}
 use Rattle.l1.specs.Syntax.{Expr}
 use Rattle.l1.specs.Store.{Store}
 use Rattle.l1.specs.Run.{Run, stay, more, Answer, answer}
 use Rattle.l1.specs.Text.{bytes}
 use Rattle.l1.proofs.Determinism.{determinism}
-use Rattle.stored.specs.Refusals.{Refusal, number, routine, GivenTrace, by-its-routine, given-40}
+use Rattle.stored.specs.Refusals.{routine, after-routine, lent-input, tracing}
 use Rattle.stored.specs.Trace.{storeIn, moment, moments, lastLine, refusedLine, Prints, prints-refusal, prints-run}
 use Rattle.stored.proofs.Reader.{holds-unique}
-use Rattle.stored.proofs.OneAnswer.{same-given, given-number, lowest-is-one, held-answer}
+use Rattle.stored.proofs.Stages.{when-single, first-unique, passes-none}
+use Rattle.stored.proofs.Admission.{admission-single}
+use Rattle.stored.proofs.OneAnswer.{held-answer}
 
 -- the lines of a run's steps are told by where it starts and how many they are
 same-moments : {T T′ K K′ : ℕ} {e e′ a a′ : Expr} {s s′ z z′ : Store} (k : ℕ)
@@ -23,12 +26,6 @@ same-moments k t q p (more d ds) (more d′ ds′) =
     let (rule, to, left) = determinism (rw (q, p) at d) d′ in
     ap₂ _∷_ (rw (rule, to, left) refl) (same-moments (suc k) (omega arith) to left ds ds′)
 
-pub same-given-trace : {input : List ℕ} {r r′ : Refusal} → number r ≡ number r′ → GivenTrace input r → GivenTrace input r′ → r ≡ r′
-same-given-trace {input} {r} {r′} e (by-its-routine g) (by-its-routine g′) = same-given (routine input) r r′ e g g′
-same-given-trace {input} {r = r} e (by-its-routine g) (given-40 h) = absurd (omega (arith, given-number (routine input) r g))
-same-given-trace {input} {r′ = r′} e (given-40 h) (by-its-routine g) = absurd (omega (arith, given-number (routine input) r′ g))
-same-given-trace e (given-40 h) (given-40 h′) = refl
-
 abbrev steps-of : Answer → ℕ
 steps-of (answer o T K e s) = T
 
@@ -36,9 +33,11 @@ abbrev last-of : Answer → List ℕ
 last-of (answer o T K e s) = lastLine o T K
 
 pub prints-unique : {input : List ℕ} {ls ls′ : List (List ℕ)} → Prints input ls → Prints input ls′ → ls ≡ ls′
-prints-unique (prints-refusal l) (prints-refusal l′) = ap (λ r. refusedLine r ∷ []) (lowest-is-one same-given-trace l l′)
-prints-unique (prints-refusal l) (prints-run none h y ds) = absurd (none _ (l .does))
-prints-unique (prints-run none h y ds) (prints-refusal l) = absurd (none _ (l .does))
+prints-unique {input} (prints-refusal f) (prints-refusal f′) =
+    let one = admission-single (routine input) (lent-input (routine input) (length (after-routine input))) (when-single, tt) in
+    ap (λ r. refusedLine r ∷ []) (first-unique (tracing input) one f f′)
+prints-unique (prints-refusal f) (prints-run none h y ds) = absurd (passes-none none f)
+prints-unique (prints-run none h y ds) (prints-refusal f) = absurd (passes-none none f)
 prints-unique {input} (prints-run none h y ds) (prints-run none′ h′ y′ ds′) =
     let q = holds-unique (routine input) h h′ in
     let a = held-answer (routine input) h h′ y y′ in

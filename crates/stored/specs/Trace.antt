@@ -9,8 +9,8 @@ use Rattle.l1.specs.Store.{Store}
 use Rattle.l1.specs.Run.{Run, stay, more, Outcome, value, overflow, fuel, answer, Yields}
 use Rattle.l1.specs.Text.{bytes, decimal, integer, text, ruleName}
 use Rattle.stored.specs.Bytes.{pair, signed}
-use Rattle.stored.specs.Refusals.{Refusal, no, no-with, locations, Holds, routine, after-routine, GivenTrace, Lowest}
-use Rattle.stored.specs.Answers.{Nothing}
+use Rattle.stored.specs.Stages.{Refusal, no, no-with, Passes, First}
+use Rattle.stored.specs.Refusals.{locations, Holds, routine, after-routine, tracing}
 
 -- ---- the input: "the routine, then 4 bytes of fuel, then m values of 4 bytes, signed, all big-endian"
 
@@ -68,9 +68,9 @@ refusedLine (no-with c i) = bytes "refused " ++ decimal c ++ bytes " at " ++ dec
 
 pub data Prints (input : List ℕ) : List (List ℕ) → Type 0 where
   -- "A refusal is the single line"
-  prints-refusal : {r : Refusal} → Lowest (GivenTrace input) r → Prints input (refusedLine r ∷ [])
+  prints-refusal : {r : Refusal} → First (tracing input) r → Prints input (refusedLine r ∷ [])
   prints-run : {e e′ : Expr} {s′ : Store} {o : Outcome} {T K : ℕ}
-      → Nothing (GivenTrace input) → Holds (routine input) e
+      → Passes (tracing input) → Holds (routine input) e
       → Yields (fuelIn input) e (storeIn input) (answer o T K e′ s′)
       → (steps : Run T K e (storeIn input) e′ s′)
       → Prints input (moment 0 (bytes "start") e (storeIn input) ∷ moments 0 steps ++ lastLine o T K ∷ [])
