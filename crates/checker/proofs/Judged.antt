@@ -7,7 +7,8 @@ use Rattle.l1.specs.Syntax.{Ty, tInt, tBool, tUnit}
 use Rattle.l1.specs.Judge.{ruleType, typeNo}
 use Rattle.l1.specs.Refused.{Refused}
 use Rattle.l1.proofs.Faults.{typeNo-unique}
-use Rattle.stored.specs.Refusals.{no-with, env}
+use Rattle.stored.specs.Stages.{no-with}
+use Rattle.stored.specs.Refusals.{env}
 use Rattle.stored.specs.Answers.{refuses, tells, Checks}
 use Rattle.stored.proofs.Acceptance.{typed-accepted, untyped-refused}
 use Rattle.routine.specs.Open.{rootOf, IsOpen}

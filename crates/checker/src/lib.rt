@@ -9,7 +9,7 @@ ghost use Rattle.stored.specs.Answers.{Checks};
 ghost use Rattle.routine.specs.Masks.{Covers, under};
 ghost use Rattle.routine.specs.Open.{IsOpen};
 ghost use Rattle.routine.specs.Says.{refusalOf};
-ghost use Rattle.stored.specs.Refusals.{no-with};
+ghost use Rattle.stored.specs.Stages.{no-with};
 ghost use Rattle.checker.specs.Rules.{faultBy, typeBy, typeOf, workBy};
 ghost use Rattle.checker.specs.Says.{TypedSays, checkedOf};
 use opener::Opened;

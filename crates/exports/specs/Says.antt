@@ -8,7 +8,7 @@ use mir.Syntax.{w32}
 use mir.Val.{ofZ}
 use Rattle.l1.specs.Store.{Store}
 use Rattle.l1.specs.Judge.{typeNo}
-use Rattle.stored.specs.Refusals.{number}
+use Rattle.stored.specs.Stages.{number}
 use Rattle.stored.specs.Answers.{Checked, refuses, tells, Checks, Runs}
 use Rattle.routine.specs.Says.{returned, refusalOf}
 use Rattle.machine.specs.declared.Ending.{Ending}

@@ -6,9 +6,10 @@ use Rattle.l1.specs.Syntax.{Expr}
 use Rattle.l1.specs.Measures.{size, depth}
 use Rattle.stored.specs.Layout.{TreeAt}
 use Rattle.stored.specs.Reader.{treeAt, StandBelow}
-use Rattle.stored.specs.Refusals.{number, count, Given, Lowest}
+use Rattle.stored.specs.Refusals.{count}
 use Rattle.stored.specs.Answers as S
-use Rattle.stored.specs.Answers.{Headed, opens}
+use Rattle.stored.specs.Answers.{opens, Opening}
+use Rattle.stored.specs.Headed.{Headed}
 use Rattle.routine.specs.Says.{refusalOf}
 use Rattle.routine.specs.Open.{SizesOf}
 use Rattle.opener.specs.declared.Head.{Head}
@@ -19,7 +20,7 @@ use Rattle.opener.specs.declared.Opened.{Opened}
 use Rattle.opener.specs.declared.Opened.the-variants as O
 
 abbrev pub HeadSays : List ℕ → Head → Type 0
-HeadSays b (H.Refused r) = (number (refusalOf r) < 10) × Lowest (Given b) (refusalOf r)
+HeadSays b (H.Refused r) = Opening b (S.Opened.refuses (refusalOf r))
 HeadSays b (H.Good z) = Headed b × SizesOf b z
 
 abbrev pub LaidSays : List ℕ → Laid → Type 0

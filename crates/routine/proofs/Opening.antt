@@ -1,17 +1,18 @@
--- What an answer of opening says: the refusal is the lowest that is given, and a routine that was opened is open.
+-- What an answer of opening says: the refusal is the first that is given, and a routine that was opened is open.
 use Prim.Native.Nat.{ℕ, _+_, _-_}
 use native.Mathlib.Omega.{arith}
 use mathlib.Core.Path.{_≡_, refl}
 use mathlib.Core.List.{List}
-use Rattle.stored.specs.Refusals.{Refusal, count, Holds, Given, Lowest}
+use Rattle.stored.specs.Stages.{Refusal, First}
+use Rattle.stored.specs.Refusals.{count, Holds, opening}
 use Rattle.stored.specs.Answers.{Opened, refuses, opens, Opening, open-refuses, open-opens}
 use Rattle.stored.proofs.Reader.{read-tree}
 use Rattle.l1.specs.Syntax.{Expr}
 use Rattle.routine.specs.declared.Sizes.{Sizes}
 use Rattle.routine.specs.Open.{rootOf, IsOpen}
 
-pub opening-refuses : {b : List ℕ} {r : Refusal} → Opening b (Opened.refuses r) → Lowest (Given b) r
-opening-refuses (open-refuses n l) = l
+pub opening-refuses : {b : List ℕ} {r : Refusal} → Opening b (Opened.refuses r) → First (opening b) r
+opening-refuses (open-refuses f) = f
 
 holds-root : (b : List ℕ) {e : Expr} → Holds b e → Holds b (rootOf b)
 holds-root b {e} h =
@@ -23,4 +24,4 @@ pub opening-opens : {b : List ℕ} {z : Sizes} → Opening b (opens (z .location
 opening-opens {b} {z} o = go o refl refl
   where
     go : {m n : ℕ} → Opening b (opens m n) → z .locations ≡ m → z .nodes ≡ n → IsOpen b z
-    go (open-opens none h) p q = record { sizes = (q, p); opens = none; holds = holds-root b h }
+    go (open-opens ok h) p q = record { sizes = (q, p); opens = ok; holds = holds-root b h }

@@ -2,8 +2,8 @@
 use mathlib.Core.Path.{_≡_, refl, sym, _∙_, ap}
 use mathlib.Core.Bool.{cond}
 use lib.Dec.{eqb}
-use Rattle.stored.specs.Refusals as S
-use Rattle.stored.specs.Refusals.{no, no-with}
+use Rattle.stored.specs.Stages as S
+use Rattle.stored.specs.Stages.{no, no-with}
 use Rattle.routine.specs.Says.{refusalOf}
 use Rattle.routine.specs.declared.Refusal.{Refusal}
 use Rattle.routine.specs.declared.Refusal.the-variants.{Short, Count, Version, Locations, Nodes, Length, Layout, Forest, Depth}

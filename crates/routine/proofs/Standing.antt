@@ -11,7 +11,8 @@ use Rattle.l1.proofs.Nodes.{nth-some, nodes-length}
 use Rattle.stored.specs.Layout.{start, TreeAt}
 use Rattle.stored.specs.Reader.{treeAt, StandBelow}
 use Rattle.stored.specs.Refusals.{count, Holds}
-use Rattle.stored.specs.Answers.{Headed, Opens}
+use Rattle.stored.specs.Answers.{Opens}
+use Rattle.stored.specs.Headed.{Headed}
 use Rattle.stored.proofs.Opens.{headed, all-nodes, not-deep}
 use Rattle.stored.proofs.Subtrees.{subtrees}
 use Rattle.stored.proofs.Reader.{read-tree}

@@ -1,7 +1,7 @@
 -- 01's number, and what it also returns, for each case of a refusal.
 use Prim.Native.Nat.{ℕ}
-use Rattle.stored.specs.Refusals as S
-use Rattle.stored.specs.Refusals.{no, no-with}
+use Rattle.stored.specs.Stages as S
+use Rattle.stored.specs.Stages.{no, no-with}
 use Rattle.routine.specs.declared.Refusal.{Refusal}
 use Rattle.routine.specs.declared.Refusal.the-variants.{Short, Count, Version, Locations, Nodes, Length, Layout, Forest, Depth}
 use Rattle.routine.specs.declared.Refusal.the-variants.{Undeclared, First, Second, Branches, Store, Buffer, Input}

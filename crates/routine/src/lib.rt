@@ -4,7 +4,7 @@ ghost use Prim.Native.Nat.{_+_, _*_, _≤_, _<_};
 ghost use lib.ListN.{length};
 ghost use Rattle.stored.specs.Bytes.{pair, signed};
 ghost use Rattle.stored.specs.Layout.{start, kind, arg, child1, child2, child3};
-ghost use Rattle.stored.specs.Refusals.{number};
+ghost use Rattle.stored.specs.Stages.{number};
 ghost use Rattle.stored.specs.Trace.{four, valuesFrom};
 ghost use Rattle.routine.specs.Forms.{formOf, kindOf, digitOf, nodeOf, integerOf};
 ghost use Rattle.routine.specs.Says.{refusalOf, returned};

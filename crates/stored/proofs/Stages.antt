@@ -69,6 +69,23 @@ passes-none {stages} {r} p f = go stages (p .all-silent) (f .of)
     go (A ∷ stages) (none, more) (inl a) = none r a
     go (A ∷ stages) (none, more) (inr (none′, f)) = go stages more f
 
+-- ---- stage by stage
+
+-- the stages before the rest are silent: what the rest gives, all give, and where the rest passes, all pass
+pub record Past (stages rest : List Stage) : Type 0 where
+  pub gives : (r : Refusal) → First rest r → First stages r
+  pub passes : Passes rest → Passes stages
+
+pub past-none : {stages : List Stage} → Past stages stages
+past-none = record { gives = λ r f. f; passes = λ p. p }
+
+module _ {stages rest : List Stage} {A : Stage} (past : Past stages (A ∷ rest)) where
+  pub past-more : Silent A → Past stages rest
+  past-more none = record { gives = λ r f. past .gives r (first-later none f); passes = λ p. past .passes (passes-more none p) }
+
+  pub first-now : {r : Refusal} → A r → First stages r
+  first-now {r} a = past .gives r (first-here a)
+
 -- ---- two lists in a row
 
 module _ (former latter : List Stage) where

@@ -10,7 +10,8 @@ use Rattle.l1.specs.Store.{Store}
 use Rattle.l1.specs.Run.{Outcome, answer, Yields}
 use Rattle.l1.specs.Text.{text}
 use Rattle.l1.proofs.LongerStore.{yields-longer}
-use Rattle.stored.specs.Refusals.{Refusal, no-with, number, locations, GivenRun, GivenText, by-run, given-32}
+use Rattle.stored.specs.Stages.{Refusal, no-with, number}
+use Rattle.stored.specs.Refusals.{locations, GivenRun, GivenText, by-run, given-32}
 use Rattle.stored.specs.Answers.{Wrote, wrote, Nothing, Writes, text-refuses, text-wrote}
 use Rattle.stored.proofs.OneAnswer.{held-answer}
 use Rattle.stored.proofs.Acceptance.{nothing-given}

@@ -6,7 +6,7 @@ use Rattle.l1.specs.Syntax.{Expr}
 use Rattle.l1.specs.Store.{Store}
 use Rattle.l1.specs.Run.{Outcome, answer, Yields}
 use Rattle.l1.specs.Text.{text}
-use Rattle.stored.specs.Refusals.{no-with}
+use Rattle.stored.specs.Stages.{no-with}
 use Rattle.stored.specs.Answers.{Wrote, wrote}
 use Rattle.routine.specs.Open.{rootOf}
 

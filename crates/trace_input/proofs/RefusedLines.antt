@@ -5,7 +5,7 @@ use mathlib.Core.Path.{_≡_}
 use mathlib.Core.Bool.{Bool, true, false}
 use mathlib.Core.List.{_++_}
 use Rattle.l1.specs.Text.{bytes, decimal}
-use Rattle.stored.specs.Refusals.{Refusal, no, no-with, number}
+use Rattle.stored.specs.Stages.{Refusal, no, no-with, number}
 use Rattle.stored.specs.Trace.{newline, refusedLine}
 use Rattle.routine.specs.Says.{returned}
 use Rattle.trace_input.specs.Says.{hasMore}

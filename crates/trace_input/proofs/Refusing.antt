@@ -6,7 +6,8 @@ use lib.ListN.{length}
 use Rattle.l1.specs.Syntax.{Ty}
 use Rattle.l1.specs.Typing.{_⊢_∶_}
 use Rattle.l1.specs.Refused.{Refused}
-use Rattle.stored.specs.Refusals.{Refusal, no, no-with, locations, env, routine, after-routine, GivenTrace, by-its-routine, given-40, Lowest}
+use Rattle.stored.specs.Stages.{Refusal, no, no-with, Lowest}
+use Rattle.stored.specs.Refusals.{locations, env, routine, after-routine, GivenTrace, by-its-routine, given-40}
 use Rattle.stored.proofs.Acceptance.{nothing-given, untyped-lowest}
 use Rattle.stored.proofs.LowestGiven.{trace-lowest, rest-lowest}
 use Rattle.routine.specs.Open.{rootOf, IsOpen}

@@ -4,7 +4,8 @@ use mathlib.Core.Path.{_≡_}
 use mathlib.Core.Bool.{Bool, true, false}
 use mathlib.Core.List.{List}
 use lib.ListN.{length, take}
-use Rattle.stored.specs.Refusals.{Refusal, no, no-with, locations, routine, after-routine, GivenTrace, Lowest}
+use Rattle.stored.specs.Stages.{Refusal, no, no-with, Lowest}
+use Rattle.stored.specs.Refusals.{locations, routine, after-routine, GivenTrace}
 use Rattle.stored.specs.Answers.{Nothing}
 use Rattle.routine.specs.Open.{SizesOf, Runnable}
 use Rattle.routine.specs.Says.{refusalOf}

@@ -1,7 +1,7 @@
 -- `checker::refusal_of` meets its contract: in each arm the number is known, and in the last it is 23.
 use native.Mathlib.Omega.{arith}
 use mathlib.Core.Path.{refl, ap₂}
-use Rattle.stored.specs.Refusals.{no-with}
+use Rattle.stored.specs.Stages.{no-with}
 use Rattle.checker.proofs.refusal_of.Statement.{statement}
 use Rattle.checker.proofs.refusal_of.Tie as tie
 

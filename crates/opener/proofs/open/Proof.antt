@@ -1,11 +1,10 @@
 -- `opener::open` meets its contract: what the head refuses is refused, and the rest is what its nodes say.
 use borrow.Author.Needs.{needs}
-use Rattle.stored.specs.Answers.{open-refuses}
 use Rattle.opener.proofs.open.Statement.{statement}
 use Rattle.opener.proofs.open.Tie as tie
 
 refuses : tie.Need-returns
-refuses c = let h = rw (c .before .r .given .1) at (c .before .before .before .read-head .ensures) in open-refuses (h .0) (h .1)
+refuses c = rw (c .before .r .given .1) at (c .before .before .before .read-head .ensures)
 
 pub open-spec : {M : Type 1} → statement M
 open-spec =

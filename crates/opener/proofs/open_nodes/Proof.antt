@@ -1,27 +1,23 @@
--- `opener::open_nodes` meets its contract: what the layout says is the lowest refusal of 7 to 9, or the tree of the routine.
+-- `opener::open_nodes` meets its contract: what the layout says is the first refusal of 7 to 9, or the tree of the routine.
 use borrow.Author.Needs.{needs}
-use native.Mathlib.Omega.{arith}
-use Rattle.stored.specs.Refusals.{no, no-with}
-use Rattle.stored.specs.Answers.{open-refuses}
-use Rattle.opener.proofs.Order.{lowest-7, lowest-8, lowest-9, opens-whole}
+use Rattle.opener.proofs.Order.{first-7, first-8, first-9, opens-whole}
 use Rattle.opener.proofs.open_nodes.Statement.{statement}
 use Rattle.opener.proofs.open_nodes.Tie as tie
 
 breaks : tie.Need-returns
 breaks c =
     let l = c .before .before .before in
-    open-refuses {r = no-with 7 (c .before .i .given .0 .0)} (omega arith)
-    (lowest-7 _ (l .before .before .pre .0) (rw (c .before .i .given .1) at (l .layout .ensures)))
+    first-7 _ (l .before .before .pre .0) (rw (c .before .i .given .1) at (l .layout .ensures))
 
 forest : tie.Need-returns-2
 forest c =
     let l = c .before .before in
-    open-refuses {r = no 8} (omega arith) (lowest-8 _ (l .before .before .pre .0) (rw (c .enum-told .given .1) at (l .layout .ensures)))
+    first-8 _ (l .before .before .pre .0) (rw (c .enum-told .given .1) at (l .layout .ensures))
 
 deep : tie.Need-returns-3
 deep c =
     let l = c .before .before in
-    open-refuses {r = no 9} (omega arith) (lowest-9 _ (l .before .before .pre .0) (rw (c .enum-told2 .given .1) at (l .layout .ensures)))
+    first-9 _ (l .before .before .pre .0) (rw (c .enum-told2 .given .1) at (l .layout .ensures))
 
 opens : tie.Need-returns-4
 opens c =
