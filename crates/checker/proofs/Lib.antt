@@ -3,4 +3,5 @@ pub mod Tables  -- what the words of the code say of each form
 pub mod TypeTurn  -- a turn of the type check's loop, and its two ends
 pub mod Counting  -- what a node adds to W and the two sets
 pub mod Judged  -- the type check and the tally give the check's answer
+pub mod Admitting  -- what the admission answers of a routine that was opened
 pub mod OneAnswer  -- the contract of the check leaves one answer

@@ -1,4 +1,6 @@
 // Checks a stored routine against the typing rules: refusals 1 to 9 and 20 to 23, else its type, W, and its read and write sets.
+pub mod admission; // admission.rt: opening, types and what is lent with a row, for all that do something with it
+
 ghost use mathlib.Core.Path.{_≡_};
 ghost use mathlib.Core.Bool.{_||_, cond};
 ghost use Prim.Native.Nat.{_≤_, _<_, _^_};
@@ -12,7 +14,8 @@ ghost use Rattle.routine.specs.Says.{refusalOf};
 ghost use Rattle.stored.specs.Stages.{no-with};
 ghost use Rattle.checker.specs.Rules.{faultBy, typeBy, typeOf, workBy};
 ghost use Rattle.checker.specs.Says.{TypedSays, checkedOf};
-use opener::Opened;
+use admission::Admission;
+use admission::Lent;
 use routine::Form;
 use routine::Node;
 use routine::Refusal;
@@ -203,7 +206,7 @@ fn check_nodes(b: &[u8], z: Sizes, mask: usize, types: &mut [u8]) -> Typed
 }
 
 // A small row gets a small table: clearing the large one would cost more than the pass.
-pub fn types(b: &[u8], z: Sizes) -> Typed
+fn types(b: &[u8], z: Sizes) -> Typed
     requires { ⌜ IsOpen (now b) z ⌝ }
     ensures { λ r. ⌜ TypedSays (now (b .entry)) r ⌝ }
 {
@@ -229,7 +232,7 @@ fn ty_of(t: u8) -> Ty
     }
 }
 
-pub fn refusal_of(c: u8, i: u16) -> Refusal
+fn refusal_of(c: u8, i: u16) -> Refusal
     requires { ⌜ (20 ≤ c) × (c ≤ 23) ⌝ }
     ensures { λ r. ⌜ refusalOf r ≡ no-with c i ⌝ }
 {
@@ -241,27 +244,20 @@ pub fn refusal_of(c: u8, i: u16) -> Refusal
     }
 }
 
-fn check_open(b: &[u8], z: Sizes) -> Checked
-    requires { ⌜ IsOpen (now b) z ⌝ }
-    ensures { λ r. ⌜ Checks (now (b .entry)) (checkedOf r) ⌝ }
-{
-    match types(b, z) {
-        Typed::Fault(c, i) => Checked::Refused(refusal_of(c, i)),
-        Typed::All(s) => Checked::Accepted(Told {
-            ty: ty_of(s.ty),
-            working: s.working,
-            reads: s.reads,
-            writes: s.writes,
-        }),
-    }
-}
-
 // Refusals 1 to 9 and 20 to 23, or what the accepted routine tells.
 pub fn check(b: &[u8]) -> Checked
     ensures { λ r. ⌜ Checks (now (b .entry)) (checkedOf r) ⌝ }
 {
-    match opener::open(b) {
-        Opened::Refused(r) => Checked::Refused(r),
-        Opened::Routine(z) => check_open(b, z),
+    match admission::admit(b, Lent::Nothing) {
+        Admission::Refused(r) => Checked::Refused(r),
+        Admission::Admitted(row) => {
+            let t = row.tally;
+            Checked::Accepted(Told {
+                ty: ty_of(t.ty),
+                working: t.working,
+                reads: t.reads,
+                writes: t.writes,
+            })
+        }
     }
 }

@@ -1,18 +1,14 @@
--- What an answer of opening says: the refusal is the first that is given, and a routine that was opened is open.
+-- A routine that was opened is open.
 use Prim.Native.Nat.{ℕ, _+_, _-_}
 use native.Mathlib.Omega.{arith}
 use mathlib.Core.Path.{_≡_, refl}
 use mathlib.Core.List.{List}
-use Rattle.stored.specs.Stages.{Refusal, First}
-use Rattle.stored.specs.Refusals.{count, Holds, opening}
-use Rattle.stored.specs.Answers.{Opened, refuses, opens, Opening, open-refuses, open-opens}
+use Rattle.stored.specs.Refusals.{count, Holds}
+use Rattle.stored.specs.Answers.{opens, Opening, open-opens}
 use Rattle.stored.proofs.Reader.{read-tree}
 use Rattle.l1.specs.Syntax.{Expr}
 use Rattle.routine.specs.declared.Sizes.{Sizes}
 use Rattle.routine.specs.Open.{rootOf, IsOpen}
-
-pub opening-refuses : {b : List ℕ} {r : Refusal} → Opening b (Opened.refuses r) → First (opening b) r
-opening-refuses (open-refuses f) = f
 
 holds-root : (b : List ℕ) {e : Expr} → Holds b e → Holds b (rootOf b)
 holds-root b {e} h =

@@ -11,7 +11,7 @@ use Rattle.l1.specs.Refused.{Refused, Verdict, Judged, has-type, has-none}
 use Rattle.l1.proofs.Verdict.{typed-not-refused, refused-unique, verdict-judged}
 use Rattle.stored.specs.Stages.{Refusal, no, no-with, Stage, One-of, given, given-one, Silent, Passes, First}
 use Rattle.stored.specs.Refusals.{env, Holds, RootHas, Breaks, opening, typing, admission}
-use Rattle.stored.specs.Answers.{Opens}
+use Rattle.stored.specs.Answers.{Opens, refuses, Opening, open-refuses}
 use Rattle.stored.proofs.Reader.{holds-unique}
 use Rattle.stored.proofs.Stages.{Single, when-single, at-single, AllSingle, passes-more, passes-nothing, first-here}
 use Rattle.stored.proofs.Stages.{both-pass, former-passes, latter-passes, first-former, first-latter}
@@ -59,8 +59,8 @@ module _ {b : List ℕ} where
       by-verdict (has-none {c} {i} r) =
           let (none, more) = latter-passes (opening b) (typing b ++ lent) p .all-silent in absurd (none (no-with c i) (given-one (e, h, r)))
 
-  pub opening-refused : (lent : List Stage) {r : Refusal} → First (opening b) r → First (admission b lent) r
-  opening-refused lent f = first-former (opening b) (typing b ++ lent) f
+  pub opening-refused : (lent : List Stage) {r : Refusal} → Opening b (refuses r) → First (admission b lent) r
+  opening-refused lent (open-refuses f) = first-former (opening b) (typing b ++ lent) f
 
   module _ (ok : Opens b) {e : Expr} (h : Holds b e) (lent : List Stage) where
     pub type-refused : {c i : ℕ} → Refused (env b) e c i → First (admission b lent) (no-with c i)
