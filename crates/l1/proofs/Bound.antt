@@ -9,7 +9,7 @@ use Rattle.l1.specs.Syntax.{Expr, int, bool, _‹_#_›_, if_then_else_,
 use Rattle.l1.specs.Store.{Store}
 use Rattle.l1.specs.Steps.{Rule, ⟨_∣_⟩⟶⟨_∣_⟩_, op+, op≥, op1, op2, deref, assign1, assign2, seq1, seq2, if1, if2, if3, while}
 use Rattle.l1.specs.Run.{whiles, Run, stay, more}
-use Rattle.l1.specs.Measures.{working, loops, limit}
+use Rattle.l1.specs.Measures.{working, loop-nodes, limit}
 
 -- the working nodes of the largest loop
 abbrev largest-loop : Expr → ℕ
@@ -76,7 +76,7 @@ pub run-within-limit : {T K : ℕ} {e e′ : Expr} {s s′ : Store} → Run T K 
 run-within-limit {e = e} ds = omega (arith, run-takes-work (working e) ds (loop-within-work e))
 
 -- where there is no loop, none comes, and no step is by `while`
-step-without-loop : {r : Rule} {e e′ : Expr} {s s′ : Store} → ⟨ e ∣ s ⟩⟶⟨ e′ ∣ s′ ⟩ r → loops e ≤ 0 → loops e′ + whiles r ≤ 0
+step-without-loop : {r : Rule} {e e′ : Expr} {s s′ : Store} → ⟨ e ∣ s ⟩⟶⟨ e′ ∣ s′ ⟩ r → loop-nodes e ≤ 0 → loop-nodes e′ + whiles r ≤ 0
 step-without-loop (op+ q h) z = omega arith
 step-without-loop (op≥ q) z = omega arith
 step-without-loop (op1 d) z = omega (arith, step-without-loop d (omega arith))
@@ -91,6 +91,6 @@ step-without-loop if2 z = omega arith
 step-without-loop (if3 d) z = omega (arith, step-without-loop d (omega arith))
 step-without-loop (while) z = absurd (omega arith)
 
-pub run-without-loop : {T K : ℕ} {e e′ : Expr} {s s′ : Store} → Run T K e s e′ s′ → loops e ≤ 0 → K ≤ 0
+pub run-without-loop : {T K : ℕ} {e e′ : Expr} {s s′ : Store} → Run T K e s e′ s′ → loop-nodes e ≤ 0 → K ≤ 0
 run-without-loop stay z = omega arith
 run-without-loop (more d ds) z = omega (arith, step-without-loop d z, run-without-loop ds (omega (arith, step-without-loop d z)))

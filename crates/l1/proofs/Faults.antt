@@ -12,26 +12,26 @@ use borrow.Author.Tests.{ltb-true, ltb-false, eqb-true, eqb-false}
 use Rattle.l1.specs.Syntax.{Op, plus, geq, Loc, Expr, int, bool, _‹_#_›_, if_then_else_, _:=_, !_, skip, _⨾_, while_do′_done}
 use Rattle.l1.specs.Syntax.{Ty, tInt, tBool, tUnit}
 use Rattle.l1.specs.Typing.{TypeEnv, _declares_, _⊢_∶_, t-int, t-bool, t-op+, t-op≥, t-if, t-assign, t-deref, t-skip, t-seq, t-while}
-use Rattle.l1.specs.Refused.{Nth, first, later, Fails, undeclared-assign, undeclared-deref, first-op, first-if, first-assign, first-seq}
+use Rattle.l1.specs.Refused.{Nth, nth-zero, nth-suc, Fails, undeclared-assign, undeclared-deref, first-op, first-if, first-assign, first-seq}
 use Rattle.l1.specs.Refused.{first-while, second-op, second-while, branches-if, Verdict, refused}
 use Rattle.l1.specs.Judge.{ruleType, typeNo, wants, declared, fault, unless-fault, first-fault}
 use Rattle.l1.proofs.Nodes.{children, Each, nil, _and_}
 use Rattle.l1.proofs.TypeUnique.{typed-rule}
 
 -- the type that has a number
-numbered : ℕ → Ty
-numbered zero = tInt
-numbered (suc zero) = tBool
-numbered (suc (suc n)) = tUnit
+type-of-number : ℕ → Ty
+type-of-number zero = tInt
+type-of-number (suc zero) = tBool
+type-of-number (suc (suc n)) = tUnit
 
-numbered-typeNo : (T : Ty) → numbered (typeNo T) ≡ T
-unfolding numbered
-numbered-typeNo tInt = refl
-numbered-typeNo tBool = refl
-numbered-typeNo tUnit = refl
+type-of-typeNo : (T : Ty) → type-of-number (typeNo T) ≡ T
+unfolding type-of-number
+type-of-typeNo tInt = refl
+type-of-typeNo tBool = refl
+type-of-typeNo tUnit = refl
 
 pub typeNo-unique : {T T′ : Ty} → typeNo T ≡ typeNo T′ → T ≡ T′
-typeNo-unique {T} {T′} q = sym (numbered-typeNo T) ∙ ap numbered q ∙ numbered-typeNo T′
+typeNo-unique {T} {T′} q = sym (type-of-typeNo T) ∙ ap type-of-number q ∙ type-of-typeNo T′
 
 -- what the two tests of `fault` decide
 wants-cases : (P : ℕ → Type 0) (T : Ty) (e : Expr) (c rest : ℕ) → (ruleType e ≡ T → P rest) → (¬ (ruleType e ≡ T) → P c) → P (wants T e c rest)
@@ -159,24 +159,24 @@ unless-found (suc c) i v h = refl
 
 module _ (Γ : TypeEnv) where
   clear-rest : {d : Expr} {ds : List Expr} {n : ℕ} → Clear Γ (d ∷ ds) (suc n) → Clear Γ ds n
-  clear-rest h j b l m = h (suc j) b (omega arith) (later m)
+  clear-rest h j b l m = h (suc j) b (omega arith) (nth-suc m)
 
   clear-more : {d : Expr} {ds : List Expr} {n : ℕ} → fault Γ d ≡ 0 → Clear Γ ds n → Clear Γ (d ∷ ds) (suc n)
-  clear-more q h j b l first = q
-  clear-more q h j b l (later {i} m) = h i b (omega arith) m
+  clear-more q h j b l nth-zero = q
+  clear-more q h j b l (nth-suc {i} m) = h i b (omega arith) m
 
   -- `first-fault` finds an element that has a fault where none below it has
   pub first-fault-at : {ds : List Expr} {d : Expr} {n c : ℕ} (i : ℕ) (v : Verdict)
       → Nth ds n d → fault Γ d ≡ c → 0 < c → Clear Γ ds n
       → first-fault Γ ds i v ≡ refused c (i + n)
   unfolding first-fault
-  first-fault-at i v first q p h = rw (q, add-zero) (unless-found _ i _ p)
-  first-fault-at i v (later {c} m) q p h = rw (h 0 c (omega arith) first, add-suc, ← suc-add) (first-fault-at (suc i) v m q p (clear-rest h))
+  first-fault-at i v nth-zero q p h = rw (q, add-zero) (unless-found _ i _ p)
+  first-fault-at i v (nth-suc {c} m) q p h = rw (h 0 c (omega arith) nth-zero, add-suc, ← suc-add) (first-fault-at (suc i) v m q p (clear-rest h))
 
   pub first-fault-none : (ds : List Expr) (i : ℕ) (v : Verdict) → Clear Γ ds (length ds) → first-fault Γ ds i v ≡ v
   unfolding first-fault
   first-fault-none [] i v h = refl
-  first-fault-none (d ∷ ds) i v h = rw (h 0 d (omega arith) first) (first-fault-none ds (suc i) v (clear-rest h))
+  first-fault-none (d ∷ ds) i v h = rw (h 0 d (omega arith) nth-zero) (first-fault-none ds (suc i) v (clear-rest h))
 
   -- there is such an element, or there is no fault
   pub data Searched (ds : List Expr) : Type 0 where
@@ -184,11 +184,11 @@ module _ (Γ : TypeEnv) where
     nowhere : Clear Γ ds (length ds) → Searched ds
 
   search-rest : {d : Expr} {ds : List Expr} → fault Γ d ≡ 0 → Searched ds → Searched (d ∷ ds)
-  search-rest q (found n d m p h) = found (suc n) d (later m) p (clear-more q h)
+  search-rest q (found n d m p h) = found (suc n) d (nth-suc m) p (clear-more q h)
   search-rest q (nowhere h) = nowhere (clear-more q h)
 
   pub search-list : (ds : List Expr) → Searched ds
   search-list [] = nowhere (λ j d l m. elim m [ ])
   search-list (d ∷ ds) =
-      let here : 0 < fault Γ d → Searched (d ∷ ds) = λ p. found 0 d first p (λ j b l m. absurd (omega arith)) in
+      let here : 0 < fault Γ d → Searched (d ∷ ds) = λ p. found 0 d nth-zero p (λ j b l m. absurd (omega arith)) in
       ⊎-elim (λ q. search-rest q (search-list ds)) here (eq-zero-or-pos (fault Γ d))

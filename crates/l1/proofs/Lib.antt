@@ -9,7 +9,7 @@ pub mod Membership  -- lists of locations as sets
 pub mod Preservation  -- what a step keeps
 pub mod Declared  -- a typed row uses declared locations alone
 pub mod SetWords  -- the words of the read set and the write set
-pub mod Decimal  -- the digits of a number
+pub mod Decimal  -- the digits of a number: no leading zeros, `-` exactly before a negative one
 pub mod Runs  -- steps in a row
 pub mod Bound  -- T ≤ W + K × (W + 2)
 pub mod Places  -- how many forms enclose the place of the next step
@@ -19,6 +19,7 @@ pub mod RunOf  -- the computed run is the run
 pub mod NeverStuck  -- demand 3, of every moment
 pub mod Depth  -- no tree is deeper than it has nodes
 pub mod Nodes  -- where the nodes of a tree stand
+pub mod OwnNumbers  -- each operator carries the number of its own node
 pub mod NodeSums  -- W and the two sets as sums over the nodes
 pub mod TypeUnique  -- one type at most
 pub mod Faults  -- the computed fault of one node

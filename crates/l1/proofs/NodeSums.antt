@@ -9,7 +9,7 @@ use lib.ListN.{take}
 use Rattle.l1.specs.Syntax.{Loc, Expr, int, bool, _‹_#_›_, if_then_else_, _:=_, !_, skip, _⨾_, while_do′_done}
 use Rattle.l1.specs.Measures.{working}
 use Rattle.l1.specs.Sets.{Use, uses-of-deref, uses-of-assign, uses}
-use Rattle.l1.specs.Refused.{nodes, Nth, first, later}
+use Rattle.l1.specs.Refused.{nodes, Nth, nth-zero, nth-suc}
 
 -- what the root of a tree itself adds to W and to a set
 abbrev pub ownWork : Expr → ℕ
@@ -85,8 +85,8 @@ uses-sum u (while e₁ do′ e₂ done) = simp (uses-append, uses-one, uses-sum 
 
 -- one more element of a list, by its number
 pub take-nth : {ds : List Expr} {i : ℕ} {d : Expr} → Nth ds i d → take (suc i) ds ≡ take i ds ++ d ∷ []
-take-nth first = refl
-take-nth (later {c} n) = ap (λ (cs : List Expr). c ∷ cs) (take-nth n)
+take-nth nth-zero = refl
+take-nth (nth-suc {c} n) = ap (λ (cs : List Expr). c ∷ cs) (take-nth n)
 
 -- so the sums over the first nodes take one node more
 pub work-more : {ds : List Expr} {i : ℕ} {d : Expr} → Nth ds i d → work-of (take (i + 1) ds) ≡ work-of (take i ds) + ownWork d

@@ -8,34 +8,34 @@ use mathlib.Core.List.{List, [], _∷_, _++_, append-assoc}
 use lib.ListN.{length, length-append}
 use Rattle.l1.specs.Syntax.{Expr, int, bool, _‹_#_›_, if_then_else_, _:=_, !_, skip, _⨾_, while_do′_done}
 use Rattle.l1.specs.Measures.{size}
-use Rattle.l1.specs.Refused.{nodes, Nth, first, later, Node}
+use Rattle.l1.specs.Refused.{nodes, Nth, nth-zero, nth-suc, Node}
 
 -- elements of a list by their numbers
 pub nth-unique : {ds : List Expr} {i : ℕ} {d d′ : Expr} → Nth ds i d → Nth ds i d′ → d ≡ d′
-nth-unique first first = refl
-nth-unique (later n) (later m) = nth-unique n m
+nth-unique nth-zero nth-zero = refl
+nth-unique (nth-suc n) (nth-suc m) = nth-unique n m
 
 pub nth-below : {ds : List Expr} {i : ℕ} {d : Expr} → Nth ds i d → i < length ds
-nth-below first = omega arith
-nth-below (later n) = let h = nth-below n in omega arith
+nth-below nth-zero = omega arith
+nth-below (nth-suc n) = let h = nth-below n in omega arith
 
 pub nth-some : (ds : List Expr) (i : ℕ) → i < length ds → (d : Expr) × Nth ds i d
 nth-some [] i h = absurd (omega arith)
-nth-some (d ∷ ds) zero h = (d, first)
-nth-some (d ∷ ds) (suc i) h = let w = nth-some ds i (omega arith) in (w .0, later (w .1))
+nth-some (d ∷ ds) zero h = (d, nth-zero)
+nth-some (d ∷ ds) (suc i) h = let w = nth-some ds i (omega arith) in (w .0, nth-suc (w .1))
 
 pub nth-left : {xs : List Expr} {i : ℕ} {d : Expr} (ys : List Expr) → Nth xs i d → Nth (xs ++ ys) i d
-nth-left ys first = first
-nth-left ys (later n) = later (nth-left ys n)
+nth-left ys nth-zero = nth-zero
+nth-left ys (nth-suc n) = nth-suc (nth-left ys n)
 
 pub nth-right : (xs : List Expr) {ys : List Expr} {i : ℕ} {d : Expr} → Nth ys i d → Nth (xs ++ ys) (length xs + i) d
 nth-right [] n = rw zero-add n
-nth-right (x ∷ xs) n = rw suc-add (later (nth-right xs n))
+nth-right (x ∷ xs) n = rw suc-add (nth-suc (nth-right xs n))
 
 pub nth-append : (xs ys : List Expr) {i : ℕ} {d : Expr} → Nth (xs ++ ys) i d → Nth xs i d ⊎ ((k : ℕ) × (length xs + k ≡ i) × Nth ys k d)
 nth-append [] ys {i} n = inr (i, zero-add i, n)
-nth-append (x ∷ xs) ys first = inl first
-nth-append (x ∷ xs) ys (later n) = ⊎-elim (λ m. inl (later m)) (λ (k, q, m). inr (k, rw (suc-add, q), m)) (nth-append xs ys n)
+nth-append (x ∷ xs) ys nth-zero = inl nth-zero
+nth-append (x ∷ xs) ys (nth-suc n) = ⊎-elim (λ m. inl (nth-suc m)) (λ (k, q, m). inr (k, rw (suc-add, q), m)) (nth-append xs ys n)
 
 pub nodes-length : (e : Expr) → length (nodes e) ≡ size e
 nodes-length (int n) = refl
@@ -120,7 +120,7 @@ size-children e = sym (nodes-length e) ∙ ap length (nodes-row e) ∙ row-lengt
 
 -- the root is the last node
 pub root-stands : (e : Expr) → Node e (sizes (children e)) e
-root-stands e = rw (nodes-row e) (rw add-zero at (row-right (children e) (first {d = e} {ds = []})))
+root-stands e = rw (nodes-row e) (rw add-zero at (row-right (children e) (nth-zero {d = e} {ds = []})))
 
 pub root-node : (e : Expr) (i : ℕ) → i + 1 ≡ size e → Node e i e
 root-node e i q = let s = size-children e in let r : sizes (children e) ≡ i = omega arith in rw (← r) (root-stands e)
@@ -147,8 +147,8 @@ pub node-standing : (e : Expr) {j : ℕ} {d : Expr} → Node e j d → Standing 
 node-standing e {d} n = row-cases (children e) (λ i. Standing e i d) (λ f k c a m. in-child a m) (λ k m. in-root m) (rw nodes-row at n)
   where
     in-root : {k : ℕ} {c : Expr} → Nth (e ∷ []) k c → Standing e (sizes (children e) + k) c
-    in-root first = let s = size-children e in at-root {j = sizes (children e) + 0} (omega arith)
-    in-root (later m) = elim m [ ]
+    in-root nth-zero = let s = size-children e in at-root {j = sizes (children e) + 0} (omega arith)
+    in-root (nth-suc m) = elim m [ ]
 
 -- `Each P cs`: P of each of the trees cs
 infixr 5 _and_

@@ -10,7 +10,7 @@ use Rattle.l1.specs.Steps.{Rule, ⟨_∣_⟩⟶⟨_∣_⟩_}
 use Rattle.l1.specs.Overflow.{_overflows-at_}
 use Rattle.l1.specs.Run.{whiles, Run, stay, more, Outcome, value, overflow, fuel, Answer, answer, Yields, ends-value, ends-overflow, ends-fuel, goes-on}
 use Rattle.l1.specs.Next.{does-end, does-overflow, does-step}
-use Rattle.l1.specs.Measures.{working, loops, limit}
+use Rattle.l1.specs.Measures.{working, loop-nodes, limit}
 use Rattle.l1.proofs.Values.{value-makes-no-step, value-is-no-overflow}
 use Rattle.l1.proofs.Determinism.{determinism}
 use Rattle.l1.proofs.OneAct.{overflow-at-one-node, overflow-makes-no-step}
@@ -112,7 +112,7 @@ only-work : (W K : ℕ) → K ≤ 0 → limit W K ≡ W
 only-work W K h = let none : K ≡ 0 = omega arith in rw none (omega arith)
 
 pub no-loop-comes-to-its-end : {f T K : ℕ} {e e′ : Expr} {s s′ : Store}
-    → loops e ≡ 0 → working e ≤ f → Yields f e s (answer fuel T K e′ s′) → ⊥
+    → loop-nodes e ≡ 0 → working e ≤ f → Yields f e s (answer fuel T K e′ s′) → ⊥
 no-loop-comes-to-its-end {f} {T} {K} {e} {e′} {s} {s′} z w y = go (answer-ends y)
   where
     go : EndsWith f T e′ s′ fuel → ⊥

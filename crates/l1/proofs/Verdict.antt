@@ -65,7 +65,7 @@ pub below-typed : {Γ : TypeEnv} {e d : Expr} {c i j : ℕ} → Refused Γ e c i
 below-typed {e} {d} r l n = (ruleType d, unfailing-below e (r .lowest-node) l n)
 
 node-not-lower : {Γ : TypeEnv} {e : Expr} {c c′ i i′ : ℕ} → Refused Γ e c i → Refused Γ e c′ i′ → ¬ (i < i′)
-node-not-lower {c} {i} r r′ l = r′ .lowest-node i (r .node) c l (r .stands) (r .fails)
+node-not-lower {c} {i} r r′ l = r′ .lowest-node i (r .failing) c l (r .stands) (r .fails)
 
 number-not-lower : {Γ : TypeEnv} {e : Expr} {c c′ i : ℕ} → Refused Γ e c i → Refused Γ e c′ i → ¬ (c < c′)
 number-not-lower {c} r r′ l = r′ .lowest-number c l (rw (nth-unique (r .stands) (r′ .stands)) at (r .fails))
@@ -92,7 +92,7 @@ clear-typed {Γ} e h = unfailing-typed Γ e (clear-unfailing e h)
 pub fault-refused : {Γ : TypeEnv} (e : Expr) {d : Expr} {i : ℕ} → Node e i d → 0 < fault Γ d → Clear Γ (nodes e) i → Refused Γ e (fault Γ d) i
 fault-refused {Γ} e {d} {i} n p h =
     record {
-      node = d;
+      failing = d;
       stands = n;
       fails = ruled-fails (ruled Γ d (among-each (children d) child-typed)) p;
       lowest-node = clear-unfailing e h;

@@ -39,16 +39,16 @@ working (e₁ ⨾ e₂) = 1 + working e₁ + working e₂
 working (while e₁ do′ e₂ done) = 1 + working e₁ + working e₂
 
 -- the number of loops; "a row with no loop" has 0
-abbrev pub loops : Expr → ℕ
-loops (int n) = 0
-loops (bool b) = 0
-loops (e₁ ‹ o # i › e₂) = loops e₁ + loops e₂
-loops (if e₁ then e₂ else e₃) = loops e₁ + loops e₂ + loops e₃
-loops (l := e) = loops e
-loops (! l) = 0
-loops skip = 0
-loops (e₁ ⨾ e₂) = loops e₁ + loops e₂
-loops (while e₁ do′ e₂ done) = 1 + loops e₁ + loops e₂
+abbrev pub loop-nodes : Expr → ℕ
+loop-nodes (int n) = 0
+loop-nodes (bool b) = 0
+loop-nodes (e₁ ‹ o # i › e₂) = loop-nodes e₁ + loop-nodes e₂
+loop-nodes (if e₁ then e₂ else e₃) = loop-nodes e₁ + loop-nodes e₂ + loop-nodes e₃
+loop-nodes (l := e) = loop-nodes e
+loop-nodes (! l) = 0
+loop-nodes skip = 0
+loop-nodes (e₁ ⨾ e₂) = loop-nodes e₁ + loop-nodes e₂
+loop-nodes (while e₁ do′ e₂ done) = 1 + loop-nodes e₁ + loop-nodes e₂
 
 -- demand 3: "With W working nodes and K `while` steps it has made at most W + K × (W + 2) steps."
 abbrev pub limit : ℕ → ℕ → ℕ

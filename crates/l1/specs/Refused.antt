@@ -19,12 +19,16 @@ nodes (while e₁ do′ e₂ done) = nodes e₁ ++ nodes e₂ ++ (while e₁ do�
 
 -- `Nth ds i d`: element i of ds, from 0, is d
 pub data Nth : List Expr → ℕ → Expr → Type 0 where
-  first : {d : Expr} {ds : List Expr} → Nth (d ∷ ds) zero d
-  later : {d c : Expr} {ds : List Expr} {i : ℕ} → Nth ds i d → Nth (c ∷ ds) (suc i) d
+  nth-zero : {d : Expr} {ds : List Expr} → Nth (d ∷ ds) zero d
+  nth-suc : {d c : Expr} {ds : List Expr} {i : ℕ} → Nth ds i d → Nth (c ∷ ds) (suc i) d
 
 -- `Node e i d`: the subtree d stands at node i of e
 abbrev pub Node : Expr → ℕ → Expr → Type 0
 Node e i d = Nth (nodes e) i d
+
+-- each operator carries the number of its own node
+pub record Numbered (e : Expr) : Type 0 where
+  pub own-number : {i j : ℕ} {o : Op} {e₁ e₂ : Expr} → Node e i (e₁ ‹ o # j › e₂) → j ≡ i
 
 -- the rule of the form e itself fails, by the number c
 pub data Fails (Γ : TypeEnv) : Expr → ℕ → Type 0 where
@@ -45,11 +49,11 @@ pub data Fails (Γ : TypeEnv) : Expr → ℕ → Type 0 where
 
 -- e is refused by c at node i: "the lowest-numbered node whose own rule fails, and at that node the lowest number"
 pub record Refused (Γ : TypeEnv) (e : Expr) (c i : ℕ) : Type 0 where
-  pub node : Expr
-  pub stands : Node e i node
-  pub fails : Fails Γ node c
+  pub failing : Expr
+  pub stands : Node e i failing
+  pub fails : Fails Γ failing c
   pub lowest-node : (j : ℕ) (d : Expr) (k : ℕ) → j < i → Node e j d → ¬ Fails Γ d k
-  pub lowest-number : (k : ℕ) → k < c → ¬ Fails Γ node k
+  pub lowest-number : (k : ℕ) → k < c → ¬ Fails Γ failing k
 
 pub data Verdict : Type 0 where
   typed : Ty → Verdict

@@ -5,15 +5,16 @@ use mathlib.Core.Path.{_≡_, refl}
 use mathlib.Core.List.{List, [], _∷_, _++_}
 use lib.IntN.{ℤ, pos}
 use lib.Signed.{leZ-yes}
-use Rattle.l1.specs.Syntax.{Op, Loc, Expr, int, plus, _‹_#_›_, _:=_, !_, skip, v-skip, tUnit}
+use Rattle.l1.specs.Syntax.{Loc, Expr, int, plus, _‹_#_›_, _:=_, !_, skip, v-skip, tUnit}
 use Rattle.l1.specs.Typing.{_declares_, _⊢_∶_, t-assign, t-op+, t-deref, t-int}
 use Rattle.l1.specs.Range.{InRange}
 use Rattle.l1.specs.Steps.{op+, op1, deref, assign1, assign2}
 use Rattle.l1.specs.Run.{stay, more, ends-value, goes-on}
 use Rattle.l1.specs.Text.{bytes, digits, text}
-use Rattle.l1.specs.Refused.{Node, first, later}
+use Rattle.l1.specs.Refused.{Node, nth-zero, nth-suc, Numbered}
+use Rattle.l1.proofs.OwnNumbers.{carriedFrom, numbersFrom, own-numbers}
 use Rattle.stored.specs.Bytes.{signed}
-use Rattle.stored.specs.Stored.{nodesFrom, stored, Storable}
+use Rattle.stored.specs.Stored.{bytesFrom, stored, Storable}
 use Rattle.stored.specs.Stages.{Passes}
 use Rattle.stored.specs.Refusals.{env, Holds, lent-input, tracing}
 use Rattle.stored.specs.Answers.{Opens}
@@ -34,7 +35,7 @@ example-bytes =
     ++ 0x05 ∷ 0x00 ∷ 0x00 ∷ 0x02 ∷ 0x00 ∷ 0x00 ∷ 0x00 ∷ 0x00 ∷ []
 
 pub example-stored : stored 1 example ≡ example-bytes
-unfolding stored nodesFrom
+unfolding stored bytesFrom
 example-stored = refl
 
 -- ---- the example is accepted
@@ -43,20 +44,20 @@ in-range : InRange (pos 25)
 in-range = record { not-low = leZ-yes tt; not-high = leZ-yes tt }
 
 integers : (i : ℕ) (n : ℤ) → Node example i (int n) → InRange n
-integers _ _ (later first) = in-range
-integers _ _ (later (later (later (later x)))) = elim x [ ]
+integers _ _ (nth-suc nth-zero) = in-range
+integers _ _ (nth-suc (nth-suc (nth-suc (nth-suc x)))) = elim x [ ]
 
 read-locations : (i : ℕ) (l : Loc) → Node example i (! l) → l ≤ 255
-read-locations _ _ first = omega arith
-read-locations _ _ (later (later (later (later x)))) = elim x [ ]
+read-locations _ _ nth-zero = omega arith
+read-locations _ _ (nth-suc (nth-suc (nth-suc (nth-suc x)))) = elim x [ ]
 
 written-locations : (i : ℕ) (l : Loc) (d : Expr) → Node example i (l := d) → l ≤ 255
-written-locations _ _ _ (later (later (later first))) = omega arith
-written-locations _ _ _ (later (later (later (later x)))) = elim x [ ]
+written-locations _ _ _ (nth-suc (nth-suc (nth-suc nth-zero))) = omega arith
+written-locations _ _ _ (nth-suc (nth-suc (nth-suc (nth-suc x)))) = elim x [ ]
 
-numbered : (i j : ℕ) (o : Op) (e₁ e₂ : Expr) → Node example i (e₁ ‹ o # j › e₂) → j ≡ i
-numbered _ _ _ _ _ (later (later first)) = refl
-numbered _ _ _ _ _ (later (later (later (later x)))) = elim x [ ]
+numbered : Numbered example
+unfolding carriedFrom numbersFrom
+numbered = own-numbers example refl
 
 storable : Storable 1 example
 storable = record {

@@ -23,7 +23,7 @@ storable-fits s = record {
   integers = s .integers;
   read-locations = s .read-locations;
   written-locations = s .written-locations;
-  numbered = λ i j o e₁ e₂ h. let p = s .numbered i j o e₁ e₂ h in omega arith;
+  numbered = λ i j o e₁ e₂ h. let p = s .numbered .own-number h in omega arith;
 }
 
 module _ (ds cs : List Expr) {f : ℕ} (fits : Fits f (ds ++ cs)) where

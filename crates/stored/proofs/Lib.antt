@@ -13,6 +13,7 @@ pub mod StoredBytes  -- the stored form is made of bytes
 pub mod OneAnswer  -- any two answers allowed are equal
 pub mod Traces  -- `trace` prints one list of lines
 pub mod Acceptance  -- what the check's answers say of the bytes
+pub mod SetBits  -- the bits of the check's two words
 pub mod RunAnswers  -- what the run's answers say, and that there is one
 pub mod LowestFirst  -- the first refusal of each of 01's lists is the lowest that applies
 pub mod ValueLists  -- values read from bytes, one more at a time

@@ -8,7 +8,7 @@ use mathlib.Core.List.{List, [], _∷_, _++_}
 use lib.ListN.{length, getD, take, drop, length-take, length-drop}
 use lib.Seq.{take-add, drop-drop, drop-cons, take-at, drop-at}
 use Rattle.stored.specs.Bytes.{byte}
-use Rattle.stored.specs.Stored.{node}
+use Rattle.stored.specs.Stored.{nodeBytes}
 use Rattle.stored.specs.Layout.{start, NodeIs}
 
 -- the bytes of n nodes from node f on
@@ -46,7 +46,7 @@ module _ (b : List ℕ) (i : ℕ) (inside : start (i + 1) ≤ length b) where
   own-bytes = take-bytes b (start i) 8 (omega arith) ∙ simp add-assoc
 
   -- the bytes of node i, where they are bytes, are those of its parts
-  pub node-part : {k a x y z : ℕ} → ((j : ℕ) → byte b j < 256) → NodeIs b i k a x y z → part b i 1 ≡ node k a x y z
+  pub node-part : {k a x y z : ℕ} → ((j : ℕ) → byte b j < 256) → NodeIs b i k a x y z → part b i 1 ≡ nodeBytes k a x y z
   node-part {k} {a} {x} {y} {z} small n =
       let s1 = halves (byte b (start i + 2)) (byte b (start i + 2 + 1)) (small (start i + 2 + 1)) in
       let s2 = halves (byte b (start i + 4)) (byte b (start i + 4 + 1)) (small (start i + 4 + 1)) in
@@ -54,7 +54,7 @@ module _ (b : List ℕ) (i : ℕ) (inside : start (i + 1) ≤ length b) where
       own-bytes ∙ rw (← n .its-kind, ← n .its-arg, ← n .its-first, ← n .its-second, ← n .its-third, s1 .0, s1 .1, s2 .0, s2 .1, s3 .0, s3 .1)
 
   -- and its parts are read from them
-  pub part-node : {k a x y z : ℕ} → part b i 1 ≡ node k a x y z → NodeIs b i k a x y z
+  pub part-node : {k a x y z : ℕ} → part b i 1 ≡ nodeBytes k a x y z → NodeIs b i k a x y z
   part-node {k} {a} {x} {y} {z} h =
       let e = sym own-bytes ∙ h in
       let g : (n : ℕ) → _ = λ (n : ℕ). ap (λ (l : List ℕ). getD l n 0) e in

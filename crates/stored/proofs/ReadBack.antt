@@ -9,10 +9,10 @@ use lib.ListN.{length, length-append}
 use lib.Seq.{take-all}
 use Rattle.l1.specs.Syntax.{Expr, int, bool, _‹_#_›_, if_then_else_, _:=_, !_, skip, _⨾_, while_do′_done}
 use Rattle.l1.specs.Measures.{size, depth}
-use Rattle.l1.specs.Refused.{nodes, first, Node}
+use Rattle.l1.specs.Refused.{nodes, nth-zero, Node}
 use Rattle.l1.proofs.Nodes.{nth-right, nth-some, nodes-length, size-positive}
 use Rattle.stored.specs.Bytes.{byte, pair, unsigned, signed}
-use Rattle.stored.specs.Stored.{node, opKind, rootFrom, nodesFrom, stored, Storable}
+use Rattle.stored.specs.Stored.{nodeBytes, opKind, rootFrom, bytesFrom, stored, Storable}
 use Rattle.stored.specs.Layout.{start, NodeIs, TreeAt, at-int, at-bool, at-op, at-if, at-assign, at-deref, at-skip, at-seq, at-while}
 use Rattle.stored.specs.Refusals.{locations, count, Holds, Breaks}
 use Rattle.stored.proofs.Fits.{Fits, storable-fits, fits-left, fits-first, fits-second, fits-rest}
@@ -23,8 +23,8 @@ use Rattle.stored.proofs.Subtrees.{subtrees}
 use Rattle.stored.proofs.Reader.{holds-unique}
 use Rattle.stored.proofs.Stages.{when-silent, at-silent, passes-nothing, passes-more}
 
-pub nodes-bytes : (e : Expr) (f : ℕ) → length (nodesFrom f e) ≡ 8 * size e
-unfolding nodesFrom
+pub nodes-bytes : (e : Expr) (f : ℕ) → length (bytesFrom f e) ≡ 8 * size e
+unfolding bytesFrom
 nodes-bytes (int n) f = refl
 nodes-bytes (bool b) f = refl
 nodes-bytes (e₁ ‹ o # i › e₂) f = simp (length-append, nodes-bytes e₁, nodes-bytes e₂) (omega arith)
@@ -52,19 +52,19 @@ two-root f n m = omega arith
 
 module _ (b : List ℕ) where
   abbrev Reads : Expr → Type 0
-  Reads e = (f : ℕ) → Fits f (nodes e) → start (f + size e) ≤ length b → part b f (size e) ≡ nodesFrom f e → TreeAt b (rootFrom f e) e
+  Reads e = (f : ℕ) → Fits f (nodes e) → start (f + size e) ≤ length b → part b f (size e) ≡ bytesFrom f e → TreeAt b (rootFrom f e) e
 
   two-read : (k : ℕ) (e₁ e₂ e : Expr) → Reads e₁ → Reads e₂ → (f : ℕ) → Fits f (nodes e₁ ++ nodes e₂ ++ e ∷ [])
       → start (f + (1 + size e₁ + size e₂)) ≤ length b
-      → part b f (1 + size e₁ + size e₂) ≡ nodesFrom f e₁ ++ nodesFrom (f + size e₁) e₂ ++ node k 0 (rootFrom f e₁) (rootFrom (f + size e₁) e₂) 0
+      → part b f (1 + size e₁ + size e₂) ≡ bytesFrom f e₁ ++ bytesFrom (f + size e₁) e₂ ++ nodeBytes k 0 (rootFrom f e₁) (rootFrom (f + size e₁) e₂) 0
       → TwoBefore b (f + (size e₁ + size e₂)) k (rootFrom f e₁) (rootFrom (f + size e₁) e₂) e₁ e₂
   two-read k e₁ e₂ e r₁ r₂ f fits inside h =
       let l₁ = nodes-bytes e₁ f in let l₂ = nodes-bytes e₂ (f + size e₁) in
       let p₁ = size-positive e₁ in let p₂ = size-positive e₂ in
       let q : 1 + size e₁ + size e₂ ≡ size e₁ + size e₂ + 1 = omega arith in
-      let bytes = nodesFrom f e₁ ++ nodesFrom (f + size e₁) e₂ in
+      let bytes = bytesFrom f e₁ ++ bytesFrom (f + size e₁) e₂ in
       let s = part-split b bytes _ f (size e₁ + size e₂) 1 (omega arith) (simp length-append (omega arith)) (rw q at h) in
-      let t = part-split b (nodesFrom f e₁) (nodesFrom (f + size e₁) e₂) f (size e₁) (size e₂) (omega arith) l₁ (s .0) in
+      let t = part-split b (bytesFrom f e₁) (bytesFrom (f + size e₁) e₂) f (size e₁) (size e₂) (omega arith) l₁ (s .0) in
       record {
         own = part-node b (f + (size e₁ + size e₂)) (omega arith) (s .1);
         last = omega arith;
@@ -75,13 +75,13 @@ module _ (b : List ℕ) where
 
   -- where the bytes from node f on are the nodes of e, e stands there
   reads : (e : Expr) → Reads e
-  unfolding nodesFrom
+  unfolding bytesFrom
   reads (int n) f fits inside h =
-      rw leaf-root (at-int (part-node b f inside h) (sym (ap signed (div-add-mod' (unsigned n) 65536) ∙ signed-unsigned n (fits .integers 0 n first))))
+      rw leaf-root (at-int (part-node b f inside h) (sym (ap signed (div-add-mod' (unsigned n) 65536) ∙ signed-unsigned n (fits .integers 0 n nth-zero))))
   reads (bool t) f fits inside h = rw leaf-root (at-bool (part-node b f inside h))
   reads (e₁ ‹ o # j › e₂) f fits inside h =
       let t = two-read (opKind o) e₁ e₂ _ (reads e₁) (reads e₂) f fits inside h in
-      let k = fits .numbered (length (nodes e₁ ++ nodes e₂) + 0) j o e₁ e₂ (nth-right (nodes e₁ ++ nodes e₂) first) in
+      let k = fits .numbered (length (nodes e₁ ++ nodes e₂) + 0) j o e₁ e₂ (nth-right (nodes e₁ ++ nodes e₂) nth-zero) in
       let l : length (nodes e₁ ++ nodes e₂) ≡ size e₁ + size e₂ = simp (length-append, nodes-length) in
       let q : j ≡ f + (size e₁ + size e₂) = omega arith in
       rw (two-root, q) (at-op (t .own) (t .last) (t .before) (t .first-tree) (t .second-tree))
@@ -92,11 +92,11 @@ module _ (b : List ℕ) where
       let a : f + (size e₁ + size e₂) ≡ f + size e₁ + size e₂ = omega arith in
       let i : f + (1 + size e₁ + size e₂ + size e₃) - 1 ≡ f + (size e₁ + size e₂ + size e₃) = omega arith in
       let children = fits-left (nodes e₁ ++ nodes e₂ ++ nodes e₃) _ fits in
-      let bytes₂ = nodesFrom f e₁ ++ nodesFrom (f + size e₁) e₂ in
-      let bytes₃ = bytes₂ ++ nodesFrom (f + size e₁ + size e₂) e₃ in
+      let bytes₂ = bytesFrom f e₁ ++ bytesFrom (f + size e₁) e₂ in
+      let bytes₃ = bytes₂ ++ bytesFrom (f + size e₁ + size e₂) e₃ in
       let s = part-split b bytes₃ _ f (size e₁ + size e₂ + size e₃) 1 (omega arith) (simp length-append (omega arith)) (rw q at h) in
       let t = part-split b bytes₂ _ f (size e₁ + size e₂) (size e₃) (omega arith) (simp length-append (omega arith)) (s .0) in
-      let u = part-split b (nodesFrom f e₁) _ f (size e₁) (size e₂) (omega arith) l₁ (t .0) in
+      let u = part-split b (bytesFrom f e₁) _ f (size e₁) (size e₂) (omega arith) l₁ (t .0) in
       let r₁ = reads e₁ f (fits-first e₁ e₂ (nodes e₃) children) (omega arith) (u .0) in
       let r₂ = reads e₂ (f + size e₁) (fits-second e₁ e₂ (nodes e₃) children) (omega arith) (u .1) in
       let r₃ = reads e₃ (f + size e₁ + size e₂) (fits-rest e₁ e₂ (nodes e₃) children) (omega arith) (rw a at (t .1)) in
@@ -108,7 +108,7 @@ module _ (b : List ℕ) where
       let p = size-positive e in
       let q : 1 + size e ≡ size e + 1 = omega arith in
       let i : f + (1 + size e) - 1 ≡ f + size e = omega arith in
-      let s = part-split b (nodesFrom f e) _ f (size e) 1 (omega arith) (nodes-bytes e f) (rw q at h) in
+      let s = part-split b (bytesFrom f e) _ f (size e) 1 (omega arith) (nodes-bytes e f) (rw q at h) in
       rw i (at-assign (part-node b (f + size e) (omega arith) (s .1)) (omega arith) (reads e f (fits-left (nodes e) _ fits) (omega arith) (s .0)))
   reads (! l) f fits inside h = rw leaf-root (at-deref (part-node b f inside h))
   reads skip f fits inside h = rw leaf-root (at-skip (part-node b f inside h))
@@ -132,9 +132,9 @@ module _ (m : ℕ) (e : Expr) where
   unfolding stored
   stored-length = rw (nodes-bytes e 0) (omega arith)
 
-  stored-part : part (stored m e) 0 (size e) ≡ nodesFrom 0 e
+  stored-part : part (stored m e) 0 (size e) ≡ bytesFrom 0 e
   unfolding stored part
-  stored-part = take-all (8 * size e) (nodesFrom 0 e) (omega (arith, nodes-bytes e 0))
+  stored-part = take-all (8 * size e) (bytesFrom 0 e) (omega (arith, nodes-bytes e 0))
 
   stored-pair : pair (stored m e) 0 ≡ 4 + 8 * size e
   unfolding stored

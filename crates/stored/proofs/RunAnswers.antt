@@ -8,7 +8,7 @@ use Rattle.l1.specs.Syntax.{Loc, Expr, Value, Ty}
 use Rattle.l1.specs.Store.{Store, lookup}
 use Rattle.l1.specs.Typing.{_⊢_∶_}
 use Rattle.l1.specs.Run.{Run, Outcome, value, fuel, Answer, answer, Yields}
-use Rattle.l1.specs.Measures.{working, loops, limit}
+use Rattle.l1.specs.Measures.{working, loop-nodes, limit}
 use Rattle.l1.specs.Sets.{writing, writes, _∈_}
 use Rattle.l1.proofs.Declared.{uses-declared}
 use Rattle.l1.proofs.Runs.{run-keeps-type, run-keeps-locations, run-keeps-others}
@@ -64,7 +64,7 @@ module _ {b : List ℕ} {s s′ : Store} {f T K : ℕ} where
   pub run-answer-within-limit : {o : Outcome} {e : Expr} → Runs b s f (ran o T K) s′ → Holds b e → T ≤ limit (working e) K
   run-answer-within-limit r h = answer-within-limit (answer-of-tree r h .1)
 
-  pub run-answer-no-fuel-without-loop : {e : Expr} → Runs b s f (ran fuel T K) s′ → Holds b e → loops e ≡ 0 → working e ≤ f → ⊥
+  pub run-answer-no-fuel-without-loop : {e : Expr} → Runs b s f (ran fuel T K) s′ → Holds b e → loop-nodes e ≡ 0 → working e ≤ f → ⊥
   run-answer-no-fuel-without-loop r h z w = no-loop-comes-to-its-end z w (answer-of-tree r h .1)
 
   pub run-value-has-type : {v e : Expr} {U : Ty} → Runs b s f (ran (value v) T K) s′ → Holds b e → env b ⊢ e ∶ U → Value v × (env b ⊢ v ∶ U)

@@ -7,7 +7,7 @@ use mathlib.Core.List.{List, [], _∷_, _++_}
 use lib.ListN.{length, length-append}
 use Rattle.l1.specs.Syntax.{Expr}
 use Rattle.l1.specs.Measures.{size}
-use Rattle.l1.specs.Refused.{nodes, Nth, first}
+use Rattle.l1.specs.Refused.{nodes, Nth, nth-zero}
 use Rattle.l1.proofs.Nodes.{nth-append, nodes-length}
 use Rattle.stored.specs.Layout.{TreeAt, at-int, at-bool, at-op, at-if, at-assign, at-deref, at-skip, at-seq, at-while}
 
@@ -32,7 +32,7 @@ module _ (b : List ℕ) where
   one-stands {f} {i} {d} e t = record { stands = λ j c h. alone h }
     where
       alone : {j : ℕ} {c : Expr} → Nth (d ∷ []) j c → TreeAt b (f + j) c
-      alone first = let q : f + 0 ≡ i = omega arith in rw q t
+      alone nth-zero = let q : f + 0 ≡ i = omega arith in rw q t
 
   both-stand : (ds cs : List Expr) {f g : ℕ} → f + length ds ≡ g → Stand b f ds → Stand b g cs → Stand b f (ds ++ cs)
   both-stand ds cs {f} {g} e s t = record {

@@ -10,7 +10,7 @@ use Rattle.l1.specs.Syntax.{Op, Loc, Expr, int, _‹_#_›_, _:=_, !_}
 use Rattle.l1.specs.Range.{InRange}
 use Rattle.l1.specs.Measures.{size}
 use Rattle.stored.specs.Bytes.{byte}
-use Rattle.stored.specs.Stored.{node, rootFrom, nodesFrom, stored, Storable}
+use Rattle.stored.specs.Stored.{nodeBytes, rootFrom, bytesFrom, stored, Storable}
 use Rattle.stored.specs.Layout.{start, NodeIs, TreeAt, at-int, at-bool, at-op, at-if, at-assign, at-deref, at-skip, at-seq, at-while}
 use Rattle.stored.specs.Refusals.{locations, Holds}
 use Rattle.stored.specs.Answers.{Opens}
@@ -27,14 +27,14 @@ module _ (b : List ℕ) (small : (k : ℕ) → byte b k < 256) where
   -- a node with two children
   two-written : {i k x y : ℕ} (e₁ e₂ : Expr) (f : ℕ) → NodeIs b i k 0 x y 0 → y + 1 ≡ i → x + size e₂ ≡ y
       → f + (1 + size e₁ + size e₂) ≡ i + 1 → start (i + 1) ≤ length b
-      → part b f (size e₁) ≡ nodesFrom f e₁ → part b (f + size e₁) (size e₂) ≡ nodesFrom (f + size e₁) e₂
-      → part b f (1 + size e₁ + size e₂) ≡ nodesFrom f e₁ ++ nodesFrom (f + size e₁) e₂ ++ node k 0 (rootFrom f e₁) (rootFrom (f + size e₁) e₂) 0
+      → part b f (size e₁) ≡ bytesFrom f e₁ → part b (f + size e₁) (size e₂) ≡ bytesFrom (f + size e₁) e₂
+      → part b f (1 + size e₁ + size e₂) ≡ bytesFrom f e₁ ++ bytesFrom (f + size e₁) e₂ ++ nodeBytes k 0 (rootFrom f e₁) (rootFrom (f + size e₁) e₂) 0
   two-written {i} {k} {x} {y} e₁ e₂ f n p q h inside w₁ w₂ =
       let e : 1 + size e₁ + size e₂ ≡ 1 + (size e₁ + size e₂) = omega arith in
       let r₁ : rootFrom f e₁ ≡ x = omega arith in
       let r₂ : rootFrom (f + size e₁) e₂ ≡ y = omega arith in
       rw (e, one-more f (size e₁ + size e₂) i (omega arith), ← part-join b f (size e₁) (size e₂), w₁, w₂, r₁, r₂)
-      (ap (λ (l : List ℕ). nodesFrom f e₁ ++ nodesFrom (f + size e₁) e₂ ++ l) (node-part b i inside small n))
+      (ap (λ (l : List ℕ). bytesFrom f e₁ ++ bytesFrom (f + size e₁) e₂ ++ l) (node-part b i inside small n))
 
   -- what a node says in bytes 4-7 is a number of 32 bits, and y and z are its halves
   word : {i k a x y z : ℕ} → NodeIs b i k a x y z
@@ -46,8 +46,8 @@ module _ (b : List ℕ) (small : (k : ℕ) → byte b k < 256) where
       omega arith
 
   -- the bytes from node f to node i are the nodes of the tree at node i
-  pub written : {i : ℕ} {e : Expr} → TreeAt b i e → (f : ℕ) → f + size e ≡ i + 1 → start (i + 1) ≤ length b → part b f (size e) ≡ nodesFrom f e
-  unfolding nodesFrom
+  pub written : {i : ℕ} {e : Expr} → TreeAt b i e → (f : ℕ) → f + size e ≡ i + 1 → start (i + 1) ≤ length b → part b f (size e) ≡ bytesFrom f e
+  unfolding bytesFrom
   written (at-int {i} {y} {z} {n} nd v) f h inside =
       let g : f ≡ i = omega arith in
       let w = word nd in
@@ -66,11 +66,11 @@ module _ (b : List ℕ) (small : (k : ℕ) → byte b k < 256) where
       let r₃ : rootFrom (f + size e₁ + size e₂) e₃ ≡ z = omega arith in
       let split = one-more f (size e₁ + size e₂ + size e₃) i (omega arith) in
       rw (e, split, ← part-join b f (size e₁ + size e₂) (size e₃), ← part-join b f (size e₁) (size e₂), a, w₁, w₂, w₃, r₁, r₂, r₃)
-      (ap (λ (l : List ℕ). nodesFrom f e₁ ++ nodesFrom (f + size e₁) e₂ ++ nodesFrom (f + size e₁ + size e₂) e₃ ++ l) (node-part b i inside small nd))
+      (ap (λ (l : List ℕ). bytesFrom f e₁ ++ bytesFrom (f + size e₁) e₂ ++ bytesFrom (f + size e₁ + size e₂) e₃ ++ l) (node-part b i inside small nd))
   written (at-assign {i} {x} {l} {e} nd p t) f h inside =
       let r : rootFrom f e ≡ x = omega arith in
       rw (one-more f (size e) i (omega arith), written t f (omega arith) (omega arith), r)
-      (ap (λ (l : List ℕ). nodesFrom f e ++ l) (node-part b i inside small nd))
+      (ap (λ (l : List ℕ). bytesFrom f e ++ l) (node-part b i inside small nd))
   written (at-deref {i} nd) f h inside = let g : f ≡ i = omega arith in rw g (node-part b i inside small nd)
   written (at-skip {i} nd) f h inside = let g : f ≡ i = omega arith in rw g (node-part b i inside small nd)
   written (at-seq {e₁ = e₁} {e₂ = e₂} nd p q t₁ t₂) f h inside =
@@ -99,7 +99,7 @@ module _ (b : List ℕ) (small : (k : ℕ) → byte b k < 256) where
         let w = written (h .tree) 0 (omega arith) (omega arith) in
         let s0 = halves (byte b 0) (byte b 1) (small 1) in
         let s4 = halves (byte b 4) (byte b 5) (small 5) in
-        let body : drop 6 b ≡ nodesFrom 0 e = sym (take-all (8 * size e) (drop 6 b) (rw length-drop (omega arith))) ∙ w in
+        let body : drop 6 b ≡ bytesFrom 0 e = sym (take-all (8 * size e) (drop 6 b) (rw length-drop (omega arith))) ∙ w in
         sym (take-append-drop 6 b) ∙ ap₂ _++_ (take-bytes b 0 6 (omega arith)) body
         ∙ rw (n, ← hd .said-bytes, s0 .0, s0 .1, s4 .0, s4 .1, hd .version)
 
@@ -114,5 +114,5 @@ module _ (b : List ℕ) (small : (k : ℕ) → byte b k < 256) where
           integers = λ i n k. int-fits (s .stands i _ k);
           read-locations = λ i l k. deref-fits (s .stands i _ k);
           written-locations = λ i l d k. assign-fits (s .stands i _ k);
-          numbered = λ i j o e₁ e₂ k. let q = op-number (s .stands i _ k) in omega arith;
+          numbered = record { own-number = λ {i} k. let q = op-number (s .stands i _ k) in omega arith };
         }

@@ -1,18 +1,17 @@
 -- 01, "The stored routine": the bytes of a tree with m declared locations, by 01's table of kinds.
 use Prim.Native.Nat.{ℕ, _+_, _-_, _*_, _/_, _%_, _≤_}
-use mathlib.Core.Path.{_≡_}
 use mathlib.Core.Bool.{cond}
 use mathlib.Core.List.{List, _∷_, _++_}
 use lib.IntN.{ℤ}
 use Rattle.l1.specs.Syntax.{Op, plus, geq, Loc, Expr, int, bool, _‹_#_›_, if_then_else_, _:=_, !_, skip, _⨾_, while_do′_done}
 use Rattle.l1.specs.Range.{InRange}
 use Rattle.l1.specs.Measures.{size, depth}
-use Rattle.l1.specs.Refused.{Node}
+use Rattle.l1.specs.Refused.{Node, Numbered}
 use Rattle.stored.specs.Bytes.{two, unsigned}
 
 -- "byte 0 kind, byte 1 a small argument, bytes 2-3, 4-5 and 6-7 the numbers of the first, second and third child"; what is not used is 0
-abbrev pub node : ℕ → ℕ → ℕ → ℕ → ℕ → List ℕ
-node kind arg first second third = kind ∷ arg ∷ two first ++ two second ++ two third
+abbrev pub nodeBytes : ℕ → ℕ → ℕ → ℕ → ℕ → List ℕ
+nodeBytes kind arg first second third = kind ∷ arg ∷ two first ++ two second ++ two third
 
 abbrev pub opKind : Op → ℕ
 opKind plus = 2
@@ -22,34 +21,34 @@ opKind geq = 3
 abbrev pub rootFrom : ℕ → Expr → ℕ
 rootFrom f e = f + size e - 1
 
--- the nodes of e in post-order, numbered from f on
-unfoldable pub nodesFrom : ℕ → Expr → List ℕ
-nodesFrom f (int n) = node 0 0 0 (unsigned n / 65536) (unsigned n % 65536)
-nodesFrom f (bool b) = node 1 (cond b 1 0) 0 0 0
-nodesFrom f (e₁ ‹ o # i › e₂) =
-    nodesFrom f e₁
-    ++ nodesFrom (f + size e₁) e₂
-    ++ node (opKind o) 0 (rootFrom f e₁) (rootFrom (f + size e₁) e₂) 0
-nodesFrom f (if e₁ then e₂ else e₃) =
-    nodesFrom f e₁
-    ++ nodesFrom (f + size e₁) e₂
-    ++ nodesFrom (f + size e₁ + size e₂) e₃
-    ++ node 4 0 (rootFrom f e₁) (rootFrom (f + size e₁) e₂) (rootFrom (f + size e₁ + size e₂) e₃)
-nodesFrom f (l := e) = nodesFrom f e ++ node 5 l (rootFrom f e) 0 0
-nodesFrom f (! l) = node 6 l 0 0 0
-nodesFrom f skip = node 7 0 0 0 0
-nodesFrom f (e₁ ⨾ e₂) =
-    nodesFrom f e₁
-    ++ nodesFrom (f + size e₁) e₂
-    ++ node 8 0 (rootFrom f e₁) (rootFrom (f + size e₁) e₂) 0
-nodesFrom f (while e₁ do′ e₂ done) =
-    nodesFrom f e₁
-    ++ nodesFrom (f + size e₁) e₂
-    ++ node 9 0 (rootFrom f e₁) (rootFrom (f + size e₁) e₂) 0
+-- the bytes of the nodes of e in post-order, numbered from f on
+unfoldable pub bytesFrom : ℕ → Expr → List ℕ
+bytesFrom f (int n) = nodeBytes 0 0 0 (unsigned n / 65536) (unsigned n % 65536)
+bytesFrom f (bool b) = nodeBytes 1 (cond b 1 0) 0 0 0
+bytesFrom f (e₁ ‹ o # i › e₂) =
+    bytesFrom f e₁
+    ++ bytesFrom (f + size e₁) e₂
+    ++ nodeBytes (opKind o) 0 (rootFrom f e₁) (rootFrom (f + size e₁) e₂) 0
+bytesFrom f (if e₁ then e₂ else e₃) =
+    bytesFrom f e₁
+    ++ bytesFrom (f + size e₁) e₂
+    ++ bytesFrom (f + size e₁ + size e₂) e₃
+    ++ nodeBytes 4 0 (rootFrom f e₁) (rootFrom (f + size e₁) e₂) (rootFrom (f + size e₁ + size e₂) e₃)
+bytesFrom f (l := e) = bytesFrom f e ++ nodeBytes 5 l (rootFrom f e) 0 0
+bytesFrom f (! l) = nodeBytes 6 l 0 0 0
+bytesFrom f skip = nodeBytes 7 0 0 0 0
+bytesFrom f (e₁ ⨾ e₂) =
+    bytesFrom f e₁
+    ++ bytesFrom (f + size e₁) e₂
+    ++ nodeBytes 8 0 (rootFrom f e₁) (rootFrom (f + size e₁) e₂) 0
+bytesFrom f (while e₁ do′ e₂ done) =
+    bytesFrom f e₁
+    ++ bytesFrom (f + size e₁) e₂
+    ++ nodeBytes 9 0 (rootFrom f e₁) (rootFrom (f + size e₁) e₂) 0
 
 -- "Bytes 0-1: the number of bytes after them. Byte 2: version, 1. Byte 3: m. Bytes 4-5: n, the number of nodes. Then n nodes of 8 bytes."
 unfoldable pub stored : ℕ → Expr → List ℕ
-stored m e = two (4 + 8 * size e) ++ 1 ∷ m ∷ two (size e) ++ nodesFrom 0 e
+stored m e = two (4 + 8 * size e) ++ 1 ∷ m ∷ two (size e) ++ bytesFrom 0 e
 
 -- the trees that a routine can hold: within the limits of 01, integers of 32 bits, locations of one byte, and each operator numbered by its
 -- own node
@@ -60,4 +59,4 @@ pub record Storable (m : ℕ) (e : Expr) : Type 0 where
   pub integers : (i : ℕ) (n : ℤ) → Node e i (int n) → InRange n
   pub read-locations : (i : ℕ) (l : Loc) → Node e i (! l) → l ≤ 255
   pub written-locations : (i : ℕ) (l : Loc) (d : Expr) → Node e i (l := d) → l ≤ 255
-  pub numbered : (i j : ℕ) (o : Op) (e₁ e₂ : Expr) → Node e i (e₁ ‹ o # j › e₂) → j ≡ i
+  pub numbered : Numbered e
