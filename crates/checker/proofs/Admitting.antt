@@ -1,5 +1,5 @@
 -- What the admission answers of a routine that was opened: refused on type, refused for what is lent, or admitted.
-use Prim.Native.Nat.{ℕ, _+_, _*_}
+use Prim.Native.Nat.{ℕ, _+_, _*_, _≤_, _<_}
 use native.Mathlib.Omega.{arith}
 use mathlib.Core.Path.{_≡_}
 use mathlib.Core.Bool.{true, false}
@@ -7,8 +7,8 @@ use mathlib.Core.List.{List, []}
 use borrow.Author.Tests.{leb-true, leb-false, eqb-true, eqb-false}
 use Rattle.l1.specs.Refused.{Refused}
 use Rattle.stored.specs.Stages.{no-with, given, Passes, First}
-use Rattle.stored.specs.Refusals.{locations, env, admission}
-use Rattle.stored.proofs.Stages.{when-silent, passes-nothing, passes-more, first-here}
+use Rattle.stored.specs.Refusals.{locations, env, admission, lent-store}
+use Rattle.stored.proofs.Stages.{when-silent, silent-when, passes-nothing, passes-more, first-here}
 use Rattle.stored.proofs.Admission as stages
 use Rattle.routine.specs.Open.{rootOf, IsOpen, Runnable}
 use Rattle.routine.specs.Says.{refusalOf}
@@ -50,3 +50,9 @@ module _ {b : List ℕ} {z : Sizes} (o : IsOpen b z) (lent : Lent) where
 
 pub may-run : {b : List ℕ} {lent : Lent} {a : Row} → Admits b lent a → Runnable b
 may-run x = record { opens = x .is-open .opens; holds = x .is-open .holds; type = _; typed = x .typed }
+
+pub store-covers : {b : List ℕ} {entries : ℕ} {a : Row} → Admits b (Store entries) a → locations b ≤ entries
+store-covers {b} {entries} x =
+    let lent = stages.admitted-lent {b = b} {lent = lent-store b entries} (x .passes) in
+    let short : ¬ (entries < locations b) = silent-when (lent .all-silent .0) in
+    omega arith

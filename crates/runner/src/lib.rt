@@ -3,11 +3,11 @@ ghost use Prim.Native.Nat.{_≤_};
 ghost use lib.ListN.{length};
 ghost use Rattle.stored.specs.Refusals.{locations};
 ghost use Rattle.stored.specs.Answers.{Runs};
-ghost use Rattle.routine.specs.Open.{SizesOf, IsOpen, Runnable};
+ghost use Rattle.routine.specs.Open.{SizesOf, Runnable};
 ghost use Rattle.runner.specs.Says.{ranOf};
-use checker::Typed;
+use checker::admission::Admission;
+use checker::admission::Lent;
 use machine::Ending;
-use opener::Opened;
 use routine::Refusal;
 use routine::Sizes;
 
@@ -41,28 +41,15 @@ fn run_typed(b: &[u8], z: Sizes, s: &mut [i32], fuel: u32) -> Ran
     })
 }
 
-// Refusals 20 to 23 and 30 of a routine that was opened.
-fn run_open(b: &[u8], z: Sizes, s: &mut [i32], fuel: u32) -> Ran
-    requires { ⌜ IsOpen (now b) z ⌝ }
-    ensures { λ r. ⌜ Runs (now (b .entry)) (now (s .entry)) fuel (ranOf r) (now (s .exit)) ⌝ }
-{
-    match checker::types(b, z) {
-        Typed::Fault(c, i) => Ran::Refused(checker::refusal_of(c, i)),
-        Typed::All(_) => {
-            if s.len() < routine::usize_of_u8(z.locations) {
-                return Ran::Refused(Refusal::Store);
-            }
-            run_typed(b, z, s, fuel)
-        }
-    }
-}
-
 // The run. A refusal changes no entry of the store.
 pub fn run(b: &[u8], s: &mut [i32], fuel: u32) -> Ran
     ensures { λ r. ⌜ Runs (now (b .entry)) (now (s .entry)) fuel (ranOf r) (now (s .exit)) ⌝ }
 {
-    match opener::open(b) {
-        Opened::Refused(r) => Ran::Refused(r),
-        Opened::Routine(z) => run_open(b, z, s, fuel),
+    match checker::admission::admit(b, Lent::Store(s.len())) {
+        Admission::Refused(r) => Ran::Refused(r),
+        Admission::Admitted(row) => {
+            let z = row.sizes;
+            run_typed(b, z, s, fuel)
+        }
     }
 }

@@ -25,13 +25,18 @@ pub store-passes : (b : List ℕ) {entries : ℕ} → locations b ≤ entries �
 store-passes b c = passes-more (when-silent (λ l. omega arith)) passes-nothing
 
 module _ {b : List ℕ} {s : Store} where
-  -- of a typed tree and such a store, the run has an answer with every fuel
+  -- of a typed tree and such a store, what the definition yields is the run's answer
+  pub run-answers : {f T K : ℕ} {e e′ : Expr} {U : Ty} {s′ : Store} {o : Outcome} → Opens b → Holds b e → env b ⊢ e ∶ U → locations b ≤ length s
+      → Yields f e s (answer o T K e′ s′) → Runs b s f (ran o T K) s′
+  run-answers ok h t c y = run-yields (admitted ok h (lent-store b (length s)) t (store-passes b c)) h y
+
+  -- and there is one with every fuel
   pub run-exists : {e : Expr} {U : Ty} (f : ℕ) → Opens b → Holds b e → env b ⊢ e ∶ U → locations b ≤ length s
       → (o : Outcome) × (T : ℕ) × (K : ℕ) × (s′ : Store) × Runs b s f (ran o T K) s′
   run-exists {e} f ok h t c = by-answer (some-answer f c t)
     where
       by-answer : (a : Answer) × Yields f e s a → (o : Outcome) × (T : ℕ) × (K : ℕ) × (s′ : Store) × Runs b s f (ran o T K) s′
-      by-answer (answer o T K e′ s′, y) = (o, T, K, s′, run-yields (admitted ok h (lent-store b (length s)) t (store-passes b c)) h y)
+      by-answer (answer o T K e′ s′, y) = (o, T, K, s′, run-answers ok h t c y)
 
   pub refusal-keeps-store : {f : ℕ} {r : Refusal} {s′ : Store} → Runs b s f (Ran.refuses r) s′ → s′ ≡ s
   refusal-keeps-store (run-refuses l) = refl

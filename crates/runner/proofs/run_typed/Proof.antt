@@ -1,9 +1,7 @@
 -- `runner::run_typed` meets its contract: the machine goes on from the first moment.
 use borrow.Author.Needs.{needs}
 use native.Mathlib.Omega.{arith}
-use Rattle.stored.specs.Answers.{run-yields}
-use Rattle.stored.proofs.Acceptance.{nothing-given}
-use Rattle.stored.proofs.RunAnswers.{nothing-given-run}
+use Rattle.stored.proofs.RunAnswers.{run-answers}
 use Rattle.routine.proofs.Standing.{is-headed}
 use Rattle.machine.proofs.FirstMoment.{first-moment}
 use Rattle.runner.proofs.run_typed.Statement.{statement}
@@ -24,4 +22,4 @@ run-typed-spec =
     (λ c. let s = c .before .before .before .before .before .before .before .before in let (ok, z, l) = s .pre in
     let h = is-headed (ok .opens) (ok .holds) in
     let first = first-moment ok l (omega arith) (c .before .before .before .before .no-places .ensures) (c .before .before .before .before .before .start .ensures) in
-    run-yields (nothing-given-run (nothing-given (ok .opens) (ok .holds) (ok .typed)) l) (ok .holds) (c .before .before .go-on .ensures _ first .1)))
+    run-answers (ok .opens) (ok .holds) (ok .typed) l (c .before .before .go-on .ensures _ first .1)))
