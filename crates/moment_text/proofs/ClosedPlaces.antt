@@ -8,7 +8,6 @@ use Rattle.machine.specs.declared.Frame.{Frame}
 use Rattle.node_text.specs.Put.{Put}
 use Rattle.node_text.proofs.PutLaws.{put-none, put-more, room-first, room-rest}
 use Rattle.moment_text.specs.Around.{closing, closes}
-use Rattle.moment_text.proofs.PieceRooms.{room-as}
 
 -- of the h places, those from j on are closed, in the bytes from `at` to p
 pub record Closed (b : List ℕ) (fs : List Frame) (h : ℕ) (buf₀ : List ℕ) (at : ℕ) (buf : List ℕ) (p j : ℕ) : Type 0 where
@@ -32,7 +31,7 @@ module _ {b : List ℕ} {fs : List Frame} {h at p : ℕ} {buf₀ buf : List ℕ}
       → at + length (closes (stack b fs h)) ≤ length buf₀ → p + length (closingAt b fs j) ≤ length buf
   room-to-close w j e room =
       room-rest (closingAt b fs j) (w .put)
-      (room-first at (w .written ++ closingAt b fs j) (closes (stack b fs j)) buf₀ (room-as at buf₀ (left-at w j e) room))
+      (room-first at (w .written ++ closingAt b fs j) (closes (stack b fs j)) buf₀ (rw (left-at w j e) at room))
 
   pub one-closed : {k r : ℕ} {buf′ : List ℕ} → Closed b fs h buf₀ at buf p k → (j : ℕ) → k ≡ suc j
       → Put buf p (closingAt b fs j) buf′ r → Closed b fs h buf₀ at buf′ r j

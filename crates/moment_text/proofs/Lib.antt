@@ -1,7 +1,6 @@
 -- The laws of a moment's text.
 pub mod TextAround  -- the text of a moment is what opens its places, its work, and what closes them
-pub mod PieceRooms  -- where a text has room, its pieces have
-pub mod ClosingPieces  -- what closes an if, and the if that a loop became, in the pieces that are written
+pub mod ClosingPieces  -- what closes the if that a loop became, in the pieces that are written
 pub mod ClosedPlaces  -- the places that are closed so far, from the innermost
 pub mod NodeLengths  -- what a table holds of the nodes' lengths, none of which is long
 pub mod MomentStands  -- a moment is as the writers of its text ask

@@ -3,11 +3,17 @@ use Prim.Native.Nat.{ℕ}
 use native.Mathlib.Omega.{arith}
 use mathlib.Core.List.{List}
 use Rattle.l1.specs.Store.{Store}
+use Rattle.routine.specs.Open.{SizesOf, IsOpen, Runnable}
+use Rattle.routine.specs.declared.Sizes.{Sizes}
 use Rattle.machine.specs.State.{Moment}
 use Rattle.machine.specs.declared.Pending.{Pending}
 use Rattle.machine.specs.declared.Machine.{Machine}
 use Rattle.machine.proofs.Turns.{height-fits}
 use Rattle.moment_text.specs.Stand.{Stands}
 
-pub moment-stands : {b : List ℕ} {s₀ s : Store} {p : Pending} {m : Machine} → Moment b s₀ s p m → Stands b (p .frames) (p .height) (m .work)
-moment-stands i = let h = height-fits i in record { runnable = i .runnable; few = omega arith; frames = i .frames; held = i .held; seen = i .seen }
+pub is-open : {b : List ℕ} {z : Sizes} → Runnable b → SizesOf b z → IsOpen b z
+is-open ok n = record { sizes = n; opens = ok .opens; holds = ok .holds }
+
+pub moment-stands : {b : List ℕ} {z : Sizes} {s₀ s : Store} {p : Pending} {m : Machine}
+    → SizesOf b z → Moment b s₀ s p m → Stands b z (p .frames) (p .height) (m .work)
+moment-stands n i = let h = height-fits i in record { is-open = is-open (i .runnable) n; few = omega arith; frames = i .frames; held = i .held; seen = i .seen }

@@ -5,9 +5,6 @@ use mathlib.Core.Path.{_≡_}
 use mathlib.Core.List.{List}
 use lib.ListN.{length, getD}
 use Rattle.stored.specs.Refusals.{count}
-use Rattle.stored.proofs.Subtrees.{size-fits}
-use Rattle.routine.specs.Open.{Runnable}
-use Rattle.routine.proofs.Standing.{is-headed, nodes-stand}
 use Rattle.node_text.specs.Texts.{textAt}
 use Rattle.node_text.proofs.TextLengths.{held}
 use Rattle.moment_text.specs.Stand.{Measured}
@@ -17,8 +14,5 @@ module _ (b table : List ℕ) (m : Measured b table) {j k : ℕ} (q : j ≡ k) (
   pub in-table : j < length table
   in-table = omega (arith, m .0)
 
-  pub told : Runnable b → {x : ℕ} → x ≡ getD table j 0 → (x ≡ length (textAt b k)) × (x ≤ 163840)
-  told ok e =
-      let y = held b table (m .1) e q l in
-      let few = is-headed (ok .opens) (ok .holds) .few-nodes in
-      (y, omega (arith, y, m .1 k l .1, few, size-fits b (nodes-stand (ok .opens) (ok .holds) k l)))
+  pub told : {x : ℕ} → x ≡ getD table j 0 → (x ≡ length (textAt b k)) × (x ≤ 163840)
+  told e = let y = held b table (m .1) e q l in (y, omega (arith, y, m .1 k l .1))

@@ -5,15 +5,16 @@ use mathlib.Core.List.{List}
 use lib.ListN.{length, getD}
 use Rattle.l1.specs.Text.{text}
 use Rattle.stored.specs.Refusals.{count}
-use Rattle.routine.specs.Open.{Runnable}
+use Rattle.routine.specs.Open.{IsOpen}
+use Rattle.routine.specs.declared.Sizes.{Sizes}
 use Rattle.machine.specs.Contexts.{plug}
 use Rattle.machine.specs.State.{exprOf, Seen, Held, blank, stack}
 use Rattle.machine.specs.declared.Frame.{Frame}
 use Rattle.machine.specs.declared.Work.{Work}
 use Rattle.node_text.specs.Lengths.{LengthsOf}
 
-pub record Stands (b : List ℕ) (fs : List Frame) (h : ℕ) (x : Work) : Type 0 where
-  pub runnable : Runnable b
+pub record Stands (b : List ℕ) (z : Sizes) (fs : List Frame) (h : ℕ) (x : Work) : Type 0 where
+  pub is-open : IsOpen b z
   pub few : h ≤ 256
   pub frames : length fs ≡ 256
   pub held : (j : ℕ) → j < h → Held b (getD fs j blank .place)

@@ -7,8 +7,8 @@ ghost use mathlib.Core.List.{_++_};
 ghost use Prim.Native.Nat.{_+_, _≤_, _<_};
 ghost use lib.ListN.{length};
 ghost use Rattle.l1.specs.Text.{bytes, integer, text};
-ghost use Rattle.stored.specs.Refusals.{count};
-ghost use Rattle.routine.specs.Open.{Runnable, SizesOf};
+ghost use Rattle.stored.specs.Answers.{Opens};
+ghost use Rattle.routine.specs.Open.{IsOpen};
 ghost use Rattle.machine.specs.State.{exprOf, Seen, Held, contextOf, stack};
 ghost use Rattle.stepper.specs.Lent.{placeOf, framesOf};
 ghost use Rattle.node_text.specs.Put.{Put};
@@ -17,6 +17,7 @@ ghost use Rattle.moment_text.specs.Around.{closing, closes, openingOf, o
 ghost use Rattle.moment_text.specs.Stand.{Stands, Measured, momentText};
 use machine::Place;
 use machine::Work;
+use node_text::Sign;
 use routine::Sizes;
 
 // An integer to the left of an operator.
@@ -46,56 +47,53 @@ fn put_opening(f: Place, buf: &mut [u8], at: usize) -> usize
     }
 }
 
-// What is to the right of an operator or a semicolon.
-fn put_right(b: &[u8], z: Sizes, sign: &[u8], c: u32, buf: &mut [u8], at: usize) -> usize
-    requires { ⌜ Runnable (now b) × (c < count (now b)) × (at + length (now sign ++ textAt (now b) c ++ bytes ")") ≤ length (now buf)) × SizesOf (now b) z ⌝ }
-    ensures { λ r. ⌜ Put (now (buf .entry)) at (now (sign .entry) ++ textAt (now (b .entry)) c ++ bytes ")") (now (buf .exit)) r ⌝ }
-{
-    let p = node_text::put_bytes(sign, buf, at);
-    let q = node_text::put_tree(b, z, c, buf, p);
-    node_text::put_byte(41, buf, q)
-}
-
-// The branches of an if, behind its test.
-fn put_branches(b: &[u8], z: Sizes, i: u32, buf: &mut [u8], at: usize) -> usize
-    requires { ⌜ Runnable (now b) × Held (now b) (Place.Test i) × (at + length (closing (contextOf (now b) (Place.Test i))) ≤ length (now buf)) × SizesOf (now b) z ⌝ }
-    ensures { λ r. ⌜ Put (now (buf .entry)) at (closing (contextOf (now (b .entry)) (Place.Test i))) (now (buf .exit)) r ⌝ }
-{
-    let p = node_text::put_bytes(b" then ", buf, at);
-    let q = node_text::put_tree(b, z, routine::second_at(b, z, i), buf, p);
-    put_right(b, z, b" else ", routine::third_at(b, z, i), buf, q)
-}
-
 // The branches of the if that a loop became: its body with the loop again, and skip.
 fn put_again(b: &[u8], z: Sizes, i: u32, buf: &mut [u8], at: usize) -> usize
-    requires { ⌜ Runnable (now b) × Held (now b) (Place.Again i) × (at + length (closing (contextOf (now b) (Place.Again i))) ≤ length (now buf)) × SizesOf (now b) z ⌝ }
+    requires { ⌜ IsOpen (now b) z × Held (now b) (Place.Again i) × (at + length (closing (contextOf (now b) (Place.Again i))) ≤ length (now buf)) ⌝ }
     ensures { λ r. ⌜ Put (now (buf .entry)) at (closing (contextOf (now (b .entry)) (Place.Again i))) (now (buf .exit)) r ⌝ }
 {
     let p = node_text::put_bytes(b" then (", buf, at);
     let q = node_text::put_tree(b, z, routine::second_at(b, z, i), buf, p);
-    let r = put_right(b, z, b" ; ", i, buf, q);
+    let r = node_text::put_right(b, z, Sign::Seq, i, buf, q);
     node_text::put_bytes(b" else skip)", buf, r)
 }
 
 fn put_closing(b: &[u8], z: Sizes, f: Place, buf: &mut [u8], at: usize) -> usize
-    requires { ⌜ Runnable (now b) × Held (now b) f × (at + length (closing (contextOf (now b) f)) ≤ length (now buf)) × SizesOf (now b) z ⌝ }
+    requires { ⌜ IsOpen (now b) z × Held (now b) f × (at + length (closing (contextOf (now b) f)) ≤ length (now buf)) ⌝ }
     ensures { λ r. ⌜ Put (now (buf .entry)) at (closing (contextOf (now (b .entry)) f)) (now (buf .exit)) r ⌝ }
 {
     match f {
         Place::Blank => node_text::put_bytes(b" ; skip)", buf, at),
-        Place::PlusLeft(i) => put_right(b, z, b" + ", routine::second_at(b, z, i), buf, at),
-        Place::GeqLeft(i) => put_right(b, z, b" >= ", routine::second_at(b, z, i), buf, at),
+        Place::PlusLeft(i) => node_text::put_right(
+            b,
+            z,
+            Sign::Plus,
+            routine::second_at(b, z, i),
+            buf,
+            at,
+        ),
+        Place::GeqLeft(i) => node_text::put_right(
+            b,
+            z,
+            Sign::Geq,
+            routine::second_at(b, z, i),
+            buf,
+            at,
+        ),
         Place::PlusRight(_, _) => node_text::put_bytes(b")", buf, at),
         Place::GeqRight(_, _) => node_text::put_bytes(b")", buf, at),
-        Place::Test(i) => put_branches(b, z, i, buf, at),
+        Place::Test(i) => {
+            let c = routine::second_at(b, z, i);
+            node_text::put_branches(b, z, c, routine::third_at(b, z, i), buf, at)
+        }
         Place::Again(i) => put_again(b, z, i, buf, at),
         Place::Store(_) => node_text::put_bytes(b")", buf, at),
-        Place::First(j) => put_right(b, z, b" ; ", j, buf, at),
+        Place::First(j) => node_text::put_right(b, z, Sign::Seq, j, buf, at),
     }
 }
 
 fn put_work(b: &[u8], z: Sizes, x: Work, buf: &mut [u8], at: usize) -> usize
-    requires { ⌜ Runnable (now b) × Seen (now b) x × (at + length (text (exprOf (now b) x)) ≤ length (now buf)) × SizesOf (now b) z ⌝ }
+    requires { ⌜ IsOpen (now b) z × Seen (now b) x × (at + length (text (exprOf (now b) x)) ≤ length (now buf)) ⌝ }
     ensures { λ r. ⌜ Put (now (buf .entry)) at (text (exprOf (now (b .entry)) x)) (now (buf .exit)) r ⌝ }
 {
     match x {
@@ -140,7 +138,7 @@ fn put_closes(
     buf: &mut [u8],
     at: usize,
 ) -> usize
-    requires { ⌜ Stands (now b) (framesOf (now tags) (now nodes) (now integers)) h x × (at + length (closes (stack (now b) (framesOf (now tags) (now nodes) (now integers)) h)) ≤ length (now buf)) × SizesOf (now b) z ⌝ }
+    requires { ⌜ Stands (now b) z (framesOf (now tags) (now nodes) (now integers)) h x × (at + length (closes (stack (now b) (framesOf (now tags) (now nodes) (now integers)) h)) ≤ length (now buf)) ⌝ }
     ensures { λ r. ⌜ Put (now (buf .entry)) at (closes (stack (now (b .entry)) (framesOf (now (tags .entry)) (now (nodes .entry)) (now (integers .entry))) h)) (now (buf .exit)) r ⌝ }
 {
     let mut p = at;
@@ -164,7 +162,7 @@ pub fn put_moment(
     buf: &mut [u8],
     at: usize,
 ) -> usize
-    requires { ⌜ Stands (now b) (framesOf (now tags) (now nodes) (now integers)) h x × (at + length (momentText (now b) (framesOf (now tags) (now nodes) (now integers)) h x) ≤ length (now buf)) × SizesOf (now b) z ⌝ }
+    requires { ⌜ Stands (now b) z (framesOf (now tags) (now nodes) (now integers)) h x × (at + length (momentText (now b) (framesOf (now tags) (now nodes) (now integers)) h x) ≤ length (now buf)) ⌝ }
     ensures { λ r. ⌜ Put (now (buf .entry)) at (momentText (now (b .entry)) (framesOf (now (tags .entry)) (now (nodes .entry)) (now (integers .entry))) h x) (now (buf .exit)) r ⌝ }
 {
     let p = put_opens(tags, nodes, integers, h, buf, at);
@@ -174,7 +172,7 @@ pub fn put_moment(
 
 // The length of what opens and closes a place.
 fn place_length(b: &[u8], z: Sizes, f: Place, lengths: &[u32]) -> usize
-    requires { ⌜ Runnable (now b) × Held (now b) f × Measured (now b) (now lengths) × SizesOf (now b) z ⌝ }
+    requires { ⌜ IsOpen (now b) z × Held (now b) f × Measured (now b) (now lengths) ⌝ }
     ensures { λ r. ⌜ (r ≡ length (openingOf f) + length (closing (contextOf (now (b .entry)) f))) × (r ≤ 400000) ⌝ }
 {
     match f {
@@ -198,7 +196,7 @@ fn place_length(b: &[u8], z: Sizes, f: Place, lengths: &[u32]) -> usize
 
 // The same from the lent slices. A moment with many loops under way has little else than places of the tag 8, a first part: they are asked for before the others.
 fn lent_length(b: &[u8], z: Sizes, tag: u8, i: u32, n: i32, lengths: &[u32]) -> usize
-    requires { ⌜ Runnable (now b) × Held (now b) (placeOf tag i n) × Measured (now b) (now lengths) × SizesOf (now b) z ⌝ }
+    requires { ⌜ IsOpen (now b) z × Held (now b) (placeOf tag i n) × Measured (now b) (now lengths) ⌝ }
     ensures { λ r. ⌜ (r ≡ length (openingOf (placeOf tag i n)) + length (closing (contextOf (now (b .entry)) (placeOf tag i n)))) × (r ≤ 400000) ⌝ }
 {
     if tag == 8 {
@@ -208,7 +206,7 @@ fn lent_length(b: &[u8], z: Sizes, tag: u8, i: u32, n: i32, lengths: &[u32]) -> 
 }
 
 fn work_length(b: &[u8], x: Work, lengths: &[u32]) -> usize
-    requires { ⌜ Runnable (now b) × Seen (now b) x × Measured (now b) (now lengths) ⌝ }
+    requires { ⌜ Opens (now b) × Seen (now b) x × Measured (now b) (now lengths) ⌝ }
     ensures { λ r. ⌜ (r ≡ length (text (exprOf (now (b .entry)) x))) × (r ≤ 200000) ⌝ }
 {
     match x {
@@ -229,7 +227,7 @@ pub fn moment_length(
     x: Work,
     lengths: &[u32],
 ) -> usize
-    requires { ⌜ Stands (now b) (framesOf (now tags) (now nodes) (now integers)) h x × Measured (now b) (now lengths) × SizesOf (now b) z ⌝ }
+    requires { ⌜ Stands (now b) z (framesOf (now tags) (now nodes) (now integers)) h x × Measured (now b) (now lengths) ⌝ }
     ensures { λ r. ⌜ (r ≡ length (momentText (now (b .entry)) (framesOf (now (tags .entry)) (now (nodes .entry)) (now (integers .entry))) h x)) × (r < 1000000000) ⌝ }
 {
     let mut r = work_length(b, x, lengths);

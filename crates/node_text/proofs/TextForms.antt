@@ -7,52 +7,59 @@ use Rattle.stored.specs.Layout.{arg, child1, child2, child3}
 use Rattle.stored.specs.Reader.{treeAt}
 use Rattle.stored.specs.Refusals.{count}
 use Rattle.routine.specs.Forms.{make, Before}
-use Rattle.routine.specs.Open.{Runnable}
+use Rattle.routine.specs.Open.{IsOpen}
+use Rattle.routine.specs.declared.Sizes.{Sizes}
 use Rattle.routine.specs.declared.Form.{Form}
-use Rattle.routine.specs.declared.Form.the-variants.{Plus, Geq, If, Assign, Seq, While}
+use Rattle.routine.specs.declared.Form.the-variants.{If, Assign, While}
 use Rattle.routine.proofs.Standing.{nodes-stand}
 use Rattle.routine.proofs.Made as m
-use Rattle.node_text.specs.Texts.{formAt, textAt}
+use Rattle.node_text.specs.Texts.{formAt, textAt, formWith, signText, branches}
+use Rattle.node_text.specs.declared.Sign.{Sign}
+use Rattle.node_text.specs.declared.Sign.the-variants.{Plus, Geq, Seq}
 
-module _ {b : List ℕ} (ok : Runnable b) {i : ℕ} (h : i < count b) where
+regroup-two : (a x s y z : List ℕ) → a ++ x ++ s ++ y ++ z ≡ a ++ x ++ (s ++ y ++ z)
+regroup-two a x s y z = simp append-assoc
+
+regroup-if : (a x t y e w z : List ℕ) → a ++ x ++ t ++ y ++ e ++ w ++ z ≡ a ++ x ++ (t ++ y ++ e ++ w ++ z)
+regroup-if a x t y e w z = simp append-assoc
+
+module _ {b : List ℕ} {z : Sizes} (o : IsOpen b z) {i : ℕ} (h : i < count b) where
   pub form-text : {F : Form} → formAt b i ≡ F → textAt b i ≡ text (make F b i (treeAt b))
-  form-text e = ap text (rw e at (m.made b (nodes-stand (ok .opens) (ok .holds) i h)))
+  form-text e = ap text (rw e at (m.made b (nodes-stand (o .opens) (o .holds) i h)))
 
   pub children : {F : Form} → formAt b i ≡ F → Before F b i
-  children e = rw e at (m.before b (nodes-stand (ok .opens) (ok .holds) i h))
+  children e = rw e at (m.before b (nodes-stand (o .opens) (o .holds) i h))
+
+  pub two-children : (s : Sign) → formAt b i ≡ formWith s → (child1 b i < i) × (child2 b i < i)
+  two-children Plus e = children e
+  two-children Geq e = children e
+  two-children Seq e = children e
 
   module _ {x : ℕ} (p : x ≡ child1 b i) where
-    pub assign-text : {l : ℕ} → l ≡ arg b i → formAt b i ≡ Assign → textAt b i ≡ (bytes "(" ++ location l ++ bytes " := ") ++ (textAt b x ++ bytes ")")
+    pub assign-text : {l : ℕ} → l ≡ arg b i → formAt b i ≡ Assign → textAt b i ≡ (bytes "(" ++ location l ++ bytes " := ") ++ textAt b x ++ bytes ")"
     unfolding text
-    assign-text a e = rw (a, p) (form-text e ∙ append-assoc (bytes "(" ++ location (arg b i) ++ bytes " := ") (textAt b (child1 b i)) (bytes ")"))
+    assign-text a e = rw (a, p) (form-text e)
 
     module _ {y : ℕ} (q : y ≡ child2 b i) where
-      -- the forms of two parts with a sign between them
-      two-text : {F : Form} (sign : List ℕ) → formAt b i ≡ F
+      pieces : {F : Form} (sign : List ℕ) → formAt b i ≡ F
           → text (make F b i (treeAt b)) ≡ bytes "(" ++ textAt b (child1 b i) ++ sign ++ textAt b (child2 b i) ++ bytes ")"
-          → textAt b i ≡ (bytes "(" ++ textAt b x) ++ sign ++ (textAt b y ++ bytes ")")
-      two-text sign e t = rw (p, q) (form-text e ∙ t ∙ append-assoc (bytes "(" ++ textAt b (child1 b i) ++ sign) (textAt b (child2 b i)) (bytes ")"))
+          → textAt b i ≡ bytes "(" ++ textAt b x ++ (sign ++ textAt b y ++ bytes ")")
+      pieces sign e t = rw (p, q) (form-text e ∙ t ∙ regroup-two (bytes "(") (textAt b (child1 b i)) sign (textAt b (child2 b i)) (bytes ")"))
 
-      pub plus-text : formAt b i ≡ Plus → textAt b i ≡ (bytes "(" ++ textAt b x) ++ bytes " + " ++ (textAt b y ++ bytes ")")
+      -- two parts with a sign between them
+      pub two-text : (s : Sign) → formAt b i ≡ formWith s → textAt b i ≡ bytes "(" ++ textAt b x ++ (signText s ++ textAt b y ++ bytes ")")
       unfolding text
-      plus-text e = two-text (bytes " + ") e refl
-
-      pub geq-text : formAt b i ≡ Geq → textAt b i ≡ (bytes "(" ++ textAt b x) ++ bytes " >= " ++ (textAt b y ++ bytes ")")
-      unfolding text
-      geq-text e = two-text (bytes " >= ") e refl
-
-      pub seq-text : formAt b i ≡ Seq → textAt b i ≡ (bytes "(" ++ textAt b x) ++ bytes " ; " ++ (textAt b y ++ bytes ")")
-      unfolding text
-      seq-text e = two-text (bytes " ; ") e refl
+      two-text Plus e = pieces (bytes " + ") e refl
+      two-text Geq e = pieces (bytes " >= ") e refl
+      two-text Seq e = pieces (bytes " ; ") e refl
 
       pub while-text : formAt b i ≡ While → textAt b i ≡ bytes "(while " ++ textAt b x ++ bytes " do " ++ textAt b y ++ bytes " done)"
       unfolding text
       while-text e = rw (p, q) (form-text e)
 
-      pub if-text : {z : ℕ} → z ≡ child3 b i → formAt b i ≡ If
-          → textAt b i ≡ bytes "(if " ++ textAt b x ++ bytes " then " ++ textAt b y ++ bytes " else " ++ (textAt b z ++ bytes ")")
+      pub if-text : {w : ℕ} → w ≡ child3 b i → formAt b i ≡ If → textAt b i ≡ bytes "(if " ++ textAt b x ++ branches b y w
       unfolding text
       if-text r e =
           rw (p, q, r)
           (form-text e
-          ∙ append-assoc (bytes "(if " ++ textAt b (child1 b i) ++ bytes " then " ++ textAt b (child2 b i) ++ bytes " else ") (textAt b (child3 b i)) (bytes ")"))
+          ∙ regroup-if (bytes "(if ") (textAt b (child1 b i)) (bytes " then ") (textAt b (child2 b i)) (bytes " else ") (textAt b (child3 b i)) (bytes ")"))

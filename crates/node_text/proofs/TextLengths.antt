@@ -14,12 +14,12 @@ use Rattle.l1.specs.Text.{decimal, integer, truth, text}
 use Rattle.l1.proofs.Range.{in-range-mag}
 use Rattle.stored.specs.Bytes.{byte, pair}
 use Rattle.stored.specs.Layout.{start, arg, TreeAt, at-int, at-bool, at-op, at-if, at-assign, at-deref, at-skip, at-seq, at-while}
-use Rattle.stored.specs.Reader.{treeAt}
 use Rattle.stored.specs.Refusals.{count}
 use Rattle.stored.proofs.Signed.{signed-in-range}
 use Rattle.stored.proofs.Subtrees.{size-fits}
 use Rattle.routine.specs.Forms.{integerOf}
-use Rattle.routine.specs.Open.{Runnable}
+use Rattle.routine.specs.Open.{IsOpen}
+use Rattle.routine.specs.declared.Sizes.{Sizes}
 use Rattle.routine.proofs.Standing.{is-headed, nodes-stand}
 use Rattle.node_text.specs.Texts.{textAt}
 use Rattle.node_text.specs.Lengths.{LengthsOf}
@@ -54,15 +54,10 @@ module _ (b : List ℕ) (small : (k : ℕ) → byte b k < 256) where
   text-length (at-seq n p q t₁ t₂) = simp length-append (omega (arith, text-length t₁, text-length t₂))
   text-length (at-while n p q t₁ t₂) = simp length-append (omega (arith, text-length t₁, text-length t₂))
 
-module _ {b : List ℕ} (ok : Runnable b) {i : ℕ} (h : i < count b) where
-  module _ (small : (k : ℕ) → byte b k < 256) where
-    pub length-fits : length (textAt b i) ≤ 40 * size (treeAt b i)
-    length-fits = text-length b small (nodes-stand (ok .opens) (ok .holds) i h)
-
-    pub length-small : length (textAt b i) < 4294967296
-    length-small =
-        let q = is-headed (ok .opens) (ok .holds) in
-        omega (arith, length-fits, size-fits b (nodes-stand (ok .opens) (ok .holds) i h), q .few-nodes)
+pub length-fits : {b : List ℕ} {z : Sizes} {i : ℕ} → IsOpen b z → i < count b → ((k : ℕ) → byte b k < 256) → length (textAt b i) ≤ 163840
+length-fits {b} {i = i} o h small =
+    let t = nodes-stand (o .opens) (o .holds) i h in
+    omega (arith, text-length b small t, size-fits b t, is-headed (o .opens) (o .holds) .few-nodes)
 
 module _ (b table : List ℕ) {i : ℕ} (t : LengthsOf b i table) where
   -- what the table holds of a child
@@ -70,7 +65,6 @@ module _ (b table : List ℕ) {i : ℕ} (t : LengthsOf b i table) where
   held {j} {k} {x} e q l = e ∙ rw q (t k l .0)
 
   -- the table, one node longer
-  pub lengths-more : {x : ℕ} → i < length table → x ≡ length (textAt b i) → length (textAt b i) ≤ 40 * size (treeAt b i)
-      → LengthsOf b (i + 1) (set table i x)
+  pub lengths-more : {x : ℕ} → i < length table → x ≡ length (textAt b i) → length (textAt b i) ≤ 163840 → LengthsOf b (i + 1) (set table i x)
   lengths-more {x} l e f =
       below-more _ _ (λ j k. (getD-set-other table i j x 0 (omega arith) ∙ t j k .0, t j k .1)) (getD-set-same table i x 0 l ∙ e, f)

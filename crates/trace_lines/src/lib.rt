@@ -60,7 +60,7 @@ fn put_shown(
     buf: &mut [u8],
     at: usize,
 ) -> usize
-    requires { ⌜ Stands (now b) (framesOf (now tags) (now nodes) (now integers)) h x × Measured (now b) (now lengths) × (at + 8192 ≤ length (now buf)) × SizesOf (now b) z ⌝ }
+    requires { ⌜ Stands (now b) z (framesOf (now tags) (now nodes) (now integers)) h x × Measured (now b) (now lengths) × (at + 8192 ≤ length (now buf)) ⌝ }
     ensures { λ r. ⌜ Put (now (buf .entry)) at (shortened (momentText (now (b .entry)) (framesOf (now (tags .entry)) (now (nodes .entry)) (now (integers .entry))) h x)) (now (buf .exit)) r × (r ≤ at + 8192) ⌝ }
 {
     let n = moment_text::moment_length(b, z, tags, nodes, integers, h, x, lengths);
@@ -126,7 +126,7 @@ pub fn put_line(
     buf: &mut [u8],
     at: usize,
 ) -> usize
-    requires { ⌜ Stands (now b) (framesOf (now tags) (now nodes) (now integers)) h (m .work) × Measured (now b) (now lengths) × (length (now s) ≤ 64) × (at + 10000 ≤ length (now buf)) × SizesOf (now b) z ⌝ }
+    requires { ⌜ Stands (now b) z (framesOf (now tags) (now nodes) (now integers)) h (m .work) × Measured (now b) (now lengths) × (length (now s) ≤ 64) × (at + 10000 ≤ length (now buf)) ⌝ }
     ensures { λ r. ⌜ Put (now (buf .entry)) at (moment (m .steps) (nameOf (m .rule)) (meaning (now (b .entry)) (pendingOf (now (tags .entry)) (now (nodes .entry)) (now (integers .entry)) h) m) (now (s .entry))) (now (buf .exit)) r × (r ≤ at + 10000) ⌝ }
 {
     let x = m.work;

@@ -20,8 +20,8 @@ is-node c = rw (c .if1 .taken) at (c .before .before .before .pre .1)
 first-part : tie.Need-returns
 first-part c =
     let s = c .before .before .before .before in
-    let (ok, h, m, sizes) = s .pre in
-    let t = told (now (s .args .b)) (now (s .args .lengths)) m refl (is-node (c .before)) ok (c .length-in .ensures .0) in
+    let (o, h, m) = s .pre in
+    let t = told (now (s .args .b)) (now (s .args .lengths)) m refl (is-node (c .before)) (c .length-in .ensures .0) in
     rw (c .before .if1 .taken) (simp length-append (omega (arith, t)))
 
 place-is : (c : tie.After-place-of) → c .place-of .result ≡ placeOf (c .before .before .before .before .args .tag) (c .before .before .before .before .args .i) (c .before .before .before .before .args .n)
@@ -35,5 +35,5 @@ lent-length-spec =
     (λ c. omega (arith, c .length-in .ensures .1))
     first-part
     (λ c κs. search needs)
-    (λ c κs. let (ok, h, m, sizes) = c .before .before .before .before .pre in (ok, subst (Held _) (sym (place-is c)) h, m, sizes))
+    (λ c κs. let (o, h, m) = c .before .before .before .before .pre in (o, subst (Held _) (sym (place-is c)) h, m))
     (λ c. rw (place-is (c .before)) at (c .place-length .ensures)))

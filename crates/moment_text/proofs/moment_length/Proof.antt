@@ -82,7 +82,7 @@ place-is c =
 place-held : tie.Need-lent-length-requires Inv-loop μ-loop
 place-held c κs =
     let p = entry (head c) .pre in
-    (p .0 .runnable, subst (Held _) (sym (place-is c)) (p .0 .held (head c .loop .j) (c .before .before .before .loop-test .taken)), p .1, p .2)
+    (p .0 .is-open, subst (Held _) (sym (place-is c)) (p .0 .held (head c .loop .j) (c .before .before .before .loop-test .taken)), p .1)
 
 again : tie.Need-loop-again Inv-loop μ-loop
 again c =
@@ -104,7 +104,7 @@ moment-length-spec =
     (tie.spec
     Inv-loop
     μ-loop
-    (λ c κs. let p = c .before .before .before .before .pre in (p .0 .runnable, p .0 .seen, p .1))
+    (λ c κs. let p = c .before .before .before .before .pre in (p .0 .is-open .opens, p .0 .seen, p .1))
     (λ c. omega (arith, c .work-length .ensures .1))
     (λ c. room (c .before) .0)
     (λ c. omega (arith, room (c .before) .3))

@@ -11,7 +11,6 @@ use borrow.Author.Needs.{needs}
 use Rattle.l1.specs.Text.{text}
 use Rattle.stored.specs.Refusals.{count}
 use Rattle.routine.specs.Open.{IsOpen}
-use Rattle.routine.proofs.Standing.{may-read}
 use Rattle.machine.specs.State.{Held}
 use Rattle.machine.specs.declared.Place.{Place}
 use Rattle.node_text.specs.Texts.{textAt}
@@ -31,7 +30,7 @@ module _ (a : tie.After-shared-slice-known2) where
   place-held e = subst (Held _) e (a .before .before .pre .1)
 
   readable : {i : ℕ} → i < count (bytes a) → IsOpen (bytes a) (a .before .before .args .z) × (i < a .before .before .args .z .nodes)
-  readable l = may-read (a .before .before .pre .0) (a .before .before .pre .3) l
+  readable l = let o = a .before .before .pre .0 in (o, omega (arith, o .sizes .0))
 
   -- node k, which the code reads as j
   module _ {j k : ℕ} (q : j ≡ k) (l : k < count (bytes a)) where
@@ -39,7 +38,7 @@ module _ (a : tie.After-shared-slice-known2) where
     has-length = in-table (bytes a) (table a) (a .before .before .pre .2) q l
 
     its-length : {x : ℕ} → x ≡ getD (table a) j 0 → (x ≡ length (textAt (bytes a) k)) × (x ≤ 163840)
-    its-length e = told (bytes a) (table a) (a .before .before .pre .2) q l (a .before .before .pre .0) e
+    its-length e = told (bytes a) (table a) (a .before .before .pre .2) q l e
 
 left-of-sum : tie.Need-returns-2
 left-of-sum c =

@@ -63,7 +63,7 @@ closing-requires c κs =
     let s = start t in
     let held = s .pre .0 .held (l .j - 1) (omega (arith, below t, l .inv .0)) in
     let e = place-is (c .before) in
-    (s .pre .0 .runnable, subst (Held _) (sym e) held, rw e (room-to-close (l .inv .1) (l .j - 1) (below t) (s .pre .1)), s .pre .2)
+    (s .pre .0 .is-open, subst (Held _) (sym e) held, rw e (room-to-close (l .inv .1) (l .j - 1) (below t) (s .pre .1)))
 
 again : tie.Need-loop-again Inv-loop μ-loop
 again c =

@@ -13,7 +13,6 @@ use Rattle.node_text.proofs.PutLaws.{put-more, room-first, room-rest}
 use Rattle.moment_text.specs.Around.{closes, opensOf}
 use Rattle.moment_text.specs.Stand.{momentText}
 use Rattle.moment_text.proofs.TextAround.{text-plug, opens-of}
-use Rattle.moment_text.proofs.PieceRooms.{room-as}
 use Rattle.moment_text.proofs.put_moment.Statement.{statement}
 use Rattle.moment_text.proofs.put_moment.Tie as tie
 
@@ -31,7 +30,7 @@ abbrev closings : tie.Start → List ℕ
 closings s = closes (stack (s .args .b .now) (frames s) (s .args .h))
 
 room : (s : tie.Start) → s .args .at + length (opensOf (frames s) (s .args .h) ++ work s ++ closings s) ≤ length (s .args .buf .now)
-room s = room-as (s .args .at) (s .args .buf .now) (moment-text (s .args .b .now) (frames s) (s .args .h) (s .args .x)) (s .pre .1)
+room s = rw (moment-text (s .args .b .now) (frames s) (s .args .h) (s .args .x)) at (s .pre .1)
 
 room-to-work : (s : tie.Start) → s .args .at + length (opensOf (frames s) (s .args .h) ++ work s) ≤ length (s .args .buf .now)
 room-to-work s = room-first (s .args .at) (opensOf (frames s) (s .args .h) ++ work s) (closings s) (s .args .buf .now) (room s)
@@ -47,14 +46,14 @@ room-for-work c κs =
     let p = c .before .before .before in
     let s = p .before .before .before .before .before .before in
     let stands = s .pre .0 in
-    (stands .runnable, stands .seen, room-rest (work s) (p .put-opens .ensures) (room-to-work s), s .pre .2)
+    (stands .is-open, stands .seen, room-rest (work s) (p .put-opens .ensures) (room-to-work s))
 
 room-to-close : tie.Need-put-closes-requires
 room-to-close c κs =
     let q = c .before .before .before in
     let p = q .before .before .before .before in
     let s = p .before .before .before .before .before .before in
-    (s .pre .0, room-rest (closings s) (put-more (p .put-opens .ensures) (q .put-work .ensures)) (room s), s .pre .2)
+    (s .pre .0, room-rest (closings s) (put-more (p .put-opens .ensures) (q .put-work .ensures)) (room s))
 
 all : tie.Need-returns
 all c =

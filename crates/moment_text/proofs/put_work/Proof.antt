@@ -21,7 +21,7 @@ room-for-node : tie.Need-put-tree-requires
 room-for-node c κs =
     let k = c .before .before in
     let s = k .before .before .before .before in
-    (s .pre .0, subst (Seen _) (k .x .given .1) (s .pre .1) .0, rw (k .x .given .1) at (s .pre .2), s .pre .3)
+    (s .pre .0, subst (Seen _) (k .x .given .1) (s .pre .1) .0, rw (k .x .given .1) at (s .pre .2))
 
 room-for-number : tie.Need-put-number-requires
 unfolding text

@@ -8,7 +8,7 @@ use denote.Ref.{now}
 use borrow.Author.Needs.{needs}
 use Rattle.l1.specs.Text.{text}
 use Rattle.stored.specs.Refusals.{count}
-use Rattle.routine.proofs.Standing.{is-headed}
+use Rattle.stored.proofs.Opens.{headed}
 use Rattle.machine.specs.State.{Seen}
 use Rattle.moment_text.proofs.NodeLengths.{in-table, told}
 use Rattle.moment_text.proofs.work_length.Statement.{statement}
@@ -22,12 +22,12 @@ node-seen : (c : tie.After-known-told) → c .before .x .given .0 .0 < count (no
 node-seen c = subst (Seen _) (c .before .x .given .1) (entry c .pre .1) .0
 
 node-low : tie.Need-cast-length-in
-node-low c = let o = entry c .pre .0 in omega (arith, node-seen c, is-headed (o .opens) (o .holds) .few-nodes)
+node-low c = omega (arith, node-seen c, headed _ (entry c .pre .0) .few-nodes)
 
 at-node : tie.Need-returns
 at-node c =
     let s = entry (c .before) in
-    let t = told (now (s .args .b)) (now (s .args .lengths)) (s .pre .2) refl (node-seen (c .before)) (s .pre .0) (c .length-in .ensures .0) in
+    let t = told (now (s .args .b)) (now (s .args .lengths)) (s .pre .2) refl (node-seen (c .before)) (c .length-in .ensures .0) in
     rw (c .before .before .x .given .1) (t .0, omega (arith, t .1))
 
 at-integer : tie.Need-returns-2

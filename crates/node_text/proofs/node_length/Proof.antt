@@ -1,5 +1,5 @@
 -- `node_text::node_length` meets its contract, form by form: the table holds the lengths of the children's texts.
-use Prim.Native.Nat.{ℕ, _<_}
+use Prim.Native.Nat.{ℕ, _≤_}
 use native.Mathlib.Omega.{arith}
 use mathlib.Core.Path.{_≡_, _∙_, sym, ap}
 use mathlib.Core.List.{List}
@@ -14,7 +14,7 @@ use Rattle.routine.specs.Forms.{make, Before}
 use Rattle.routine.specs.declared.Form.{Form}
 use Rattle.node_text.specs.Texts.{textAt}
 use Rattle.node_text.proofs.TextForms.{form-text, children}
-use Rattle.node_text.proofs.TextLengths.{length-small, held}
+use Rattle.node_text.proofs.TextLengths.{length-fits, held}
 use Rattle.node_text.proofs.node_length.Statement.{statement}
 use Rattle.node_text.proofs.node_length.Tie as tie
 
@@ -35,8 +35,8 @@ module _ (g : tie.After-form-at) {F : Form} (found : g .form-at .result ≡ F) w
   its-children : Before F (bytes g) (node g)
   its-children = children (entry g .pre .0) (entry g .pre .1) (sym (g .form-at .ensures) ∙ found)
 
-its-length-small : (g : tie.After-form-at) → length (textAt (bytes g) (node g)) < 4294967296
-its-length-small g = length-small (entry g .pre .0) (entry g .pre .1) (λ k. omega (arith, g .before .before .shared-slice-known .given k))
+its-length-fits : (g : tie.After-form-at) → length (textAt (bytes g) (node g)) ≤ 163840
+its-length-fits g = length-fits (entry g .pre .0) (entry g .pre .1) (λ k. omega (arith, g .before .before .shared-slice-known .given k))
 
 integer : tie.Need-returns
 unfolding text
@@ -56,14 +56,14 @@ unfolding text
 plus c =
     let k = c .before in let g = k .before .before in
     let e = its-text g (k .enum-told3 .given .1) in
-    omega (arith, simp length-append at (ap length e), c .two-lengths .ensures, its-length-small g)
+    omega (arith, simp length-append at (ap length e), c .two-lengths .ensures, its-length-fits g)
 
 geq : tie.Need-returns-4
 unfolding text
 geq c =
     let k = c .before in let g = k .before .before in
     let e = its-text g (k .enum-told4 .given .1) in
-    omega (arith, simp length-append at (ap length e), c .two-lengths2 .ensures, its-length-small g)
+    omega (arith, simp length-append at (ap length e), c .two-lengths2 .ensures, its-length-fits g)
 
 if-then : tie.Need-returns-5
 unfolding text
@@ -71,7 +71,7 @@ if-then c =
     let w = c .before .before in let k = w .before in let g = k .before .before in
     let e = its-text g (k .enum-told5 .given .1) in
     let third = held _ (now (entry g .args .lengths)) (entry g .pre .3) (c .length-in .ensures .0) (c .before .third-at .ensures) (its-children g (k .enum-told5 .given .1) .2) in
-    omega (arith, simp length-append at (ap length e), w .two-lengths3 .ensures, third, its-length-small g)
+    omega (arith, simp length-append at (ap length e), w .two-lengths3 .ensures, third, its-length-fits g)
 
 assign : tie.Need-returns-6
 unfolding text
@@ -80,7 +80,7 @@ assign c =
     let e = its-text g (k .enum-told6 .given .1) in
     let first = held _ (now (entry g .args .lengths)) (entry g .pre .3) (c .length-in2 .ensures .0) (c .before .first-at .ensures) (its-children g (k .enum-told6 .given .1)) in
     let digits = rw (w .before .arg-at2 .ensures) at (w .width .ensures) in
-    omega (arith, simp length-append at (ap length e), digits, first, its-length-small g)
+    omega (arith, simp length-append at (ap length e), digits, first, its-length-fits g)
 
 deref : tie.Need-returns-7
 unfolding text
@@ -97,14 +97,14 @@ unfolding text
 seq c =
     let k = c .before in let g = k .before .before in
     let e = its-text g (k .enum-told9 .given .1) in
-    omega (arith, simp length-append at (ap length e), c .two-lengths4 .ensures, its-length-small g)
+    omega (arith, simp length-append at (ap length e), c .two-lengths4 .ensures, its-length-fits g)
 
 while-do : tie.Need-returns-10
 unfolding text
 while-do c =
     let k = c .before in let g = k .before .before in
     let e = its-text g (k .enum-told10 .given .1) in
-    omega (arith, simp length-append at (ap length e), c .two-lengths5 .ensures, its-length-small g)
+    omega (arith, simp length-append at (ap length e), c .two-lengths5 .ensures, its-length-fits g)
 
 pub node-length-spec : {M : Type 1} → statement M
 node-length-spec =
@@ -118,13 +118,13 @@ node-length-spec =
     (λ c κs. search needs)
     (λ c κs. search needs)
     (λ c. search needs)
-    (λ c κs. let s = entry (c .before .before) in let h = its-children (c .before .before) (c .enum-told3 .given .1) in (s .pre .0, s .pre .1, s .pre .2, s .pre .3, h .0, h .1, s .pre .4))
+    (λ c κs. let g = c .before .before in let (o, h, room, table) = entry g .pre in let j = its-children g (c .enum-told3 .given .1) in (o, h, room, table, j .0, j .1))
     (λ c. search needs)
     (λ c. search needs)
-    (λ c κs. let s = entry (c .before .before) in let h = its-children (c .before .before) (c .enum-told4 .given .1) in (s .pre .0, s .pre .1, s .pre .2, s .pre .3, h .0, h .1, s .pre .4))
+    (λ c κs. let g = c .before .before in let (o, h, room, table) = entry g .pre in let j = its-children g (c .enum-told4 .given .1) in (o, h, room, table, j .0, j .1))
     (λ c. search needs)
     (λ c. search needs)
-    (λ c κs. let s = entry (c .before .before) in let h = its-children (c .before .before) (c .enum-told5 .given .1) in (s .pre .0, s .pre .1, s .pre .2, s .pre .3, h .0, h .1, s .pre .4))
+    (λ c κs. let g = c .before .before in let (o, h, room, table) = entry g .pre in let j = its-children g (c .enum-told5 .given .1) in (o, h, room, table, j .0, j .1))
     (λ c. search needs)
     (λ c κs. search needs)
     (λ c κs.
@@ -148,10 +148,10 @@ node-length-spec =
     (λ c. search needs)
     (λ c. search needs)
     (λ c. search needs)
-    (λ c κs. let s = entry (c .before .before) in let h = its-children (c .before .before) (c .enum-told9 .given .1) in (s .pre .0, s .pre .1, s .pre .2, s .pre .3, h .0, h .1, s .pre .4))
+    (λ c κs. let g = c .before .before in let (o, h, room, table) = entry g .pre in let j = its-children g (c .enum-told9 .given .1) in (o, h, room, table, j .0, j .1))
     (λ c. search needs)
     (λ c. search needs)
-    (λ c κs. let s = entry (c .before .before) in let h = its-children (c .before .before) (c .enum-told10 .given .1) in (s .pre .0, s .pre .1, s .pre .2, s .pre .3, h .0, h .1, s .pre .4))
+    (λ c κs. let g = c .before .before in let (o, h, room, table) = entry g .pre in let j = its-children g (c .enum-told10 .given .1) in (o, h, room, table, j .0, j .1))
     (λ c. search needs)
     (λ c. search needs)
     integer

@@ -7,7 +7,7 @@ use Rattle.routine.proofs.Standing.{is-headed}
 use Rattle.machine.specs.State.{Moment}
 use Rattle.machine.proofs.FirstMoment.{first-moment}
 use Rattle.stepper.specs.Lent.{pendingOf}
-use Rattle.moment_text.proofs.MomentStands.{moment-stands}
+use Rattle.moment_text.proofs.MomentStands.{is-open, moment-stands}
 use Rattle.text_after.proofs.Showing.{long-shown, put-shown}
 use Rattle.text_after.proofs.show.Statement.{statement}
 use Rattle.text_after.proofs.show.Tie as tie
@@ -31,13 +31,13 @@ go-to-requires : tie.Need-go-to-requires
 go-to-requires c κs = (search needs, omega (arith, c .before .before .before .before .start .ensures .1), (_, first c), entry c .pre .1)
 
 measure-requires : tie.Need-measure-requires
-measure-requires c κs = let (ok, z, l, f, n) = entry (c .before .before .before .before .before .before .before .before .before) .pre in (ok, n, z)
+measure-requires c κs = let (ok, z, l, f, n) = entry (c .before .before .before .before .before .before .before .before .before) .pre in (is-open ok z, n)
 
 moment-length-requires : tie.Need-moment-length-requires
 moment-length-requires c κs =
     let r = c .before .before .before .before .before .before .before .before .before .before .before .before .before .before .before in
     let (m, y) = r .go-to .ensures _ (first (r .before)) in
-    (moment-stands m, (omega (arith, entry (r .before) .pre .4), c .before .before .before .before .before .before .measure .ensures), entry (r .before) .pre .1)
+    (moment-stands (entry (r .before) .pre .1) m, (omega (arith, entry (r .before) .pre .4), c .before .before .before .before .before .before .measure .ensures .lengths))
 
 returns : tie.Need-returns
 returns c =
@@ -49,7 +49,7 @@ put-moment-requires : tie.Need-put-moment-requires
 put-moment-requires c κs =
     let w = c .before .before .before .before .before in
     let (m, y) = ran w .go-to .ensures _ (first (ran w .before)) in
-    (moment-stands m, omega (arith, w .moment-length .ensures .0), entry (ran w .before) .pre .1)
+    (moment-stands (entry (ran w .before) .pre .1) m, omega (arith, w .moment-length .ensures .0))
 
 returns-2 : tie.Need-returns-2
 returns-2 c =

@@ -68,7 +68,7 @@ first-page-spec =
     (λ c. omega (arith, root-is (c .before .before .before .before .before .before)))
     (λ c. let p = c .before .before .before .before .before .before .pre in omega (arith, p .7, is-headed (p .0 .opens) (p .0 .holds) .few-nodes))
     (λ c κs. let s = c .before .before .before .before .before .before in (s .pre .0, root-is s, s .pre .7))
-    (λ c κs. let a = c .before .before .before .before .before in let s = entry a in (moment-stands (first a), s .pre .4, s .pre .2, omega (arith, s .pre .6), s .pre .7))
+    (λ c κs. let a = c .before .before .before .before .before in let s = entry a in (moment-stands (s .pre .7) (first a), s .pre .4, s .pre .2, omega (arith, s .pre .6)))
     fill-page-requires
     (λ c. search needs)
     (λ c. search needs)

@@ -52,7 +52,7 @@ put-line-requires c κs =
     let s = start t in
     let (s₀, ls, i) = s .pre .1 in
     let next = t .go-to .ensures s₀ (i .moment) .0 in
-    (moment-stands next, s .pre .0 .2, omega (arith, keeps-length next, keeps-length (i .moment), s .pre .0 .3), s .pre .0 .4, s .pre .0 .5)
+    (moment-stands (s .pre .0 .5) next, s .pre .0 .2, omega (arith, keeps-length next, keeps-length (i .moment), s .pre .0 .3), s .pre .0 .4)
 
 the-last : tie.Need-returns
 the-last c =

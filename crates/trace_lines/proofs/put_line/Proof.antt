@@ -39,7 +39,7 @@ put-line-spec =
     tie.close
     (tie.spec
     (λ c κs. let s = c .before .before .before .before .before .before in omega (arith, s .pre .3))
-    (λ c κs. let p = c .before .before .before in (start p .pre .0, start p .pre .1, omega (arith, room-1 p), start p .pre .4))
+    (λ c κs. let p = c .before .before .before in (start p .pre .0, start p .pre .1, omega (arith, room-1 p)))
     (λ c κs. let q = c .before .before .before in (start (head q) .pre .2, omega (arith, room-2 q)))
     (λ c. search needs)
     all)

@@ -9,6 +9,7 @@ use denote.Ref.{now}
 use borrow.Author.Needs.{needs}
 use Rattle.routine.specs.Open.{SizesOf, Runnable}
 use Rattle.routine.proofs.Standing.{is-headed}
+use Rattle.moment_text.proofs.MomentStands.{is-open}
 use Rattle.trace_lines.proofs.Telling.{told-here}
 use Rattle.trace_output.proofs.print_run.Statement.{statement}
 use Rattle.trace_output.proofs.print_run.Tie as tie
@@ -55,7 +56,7 @@ first-page-requires c κs =
       omega (arith, n, sized v .usize-of-u8 .ensures .0, z .1),
       omega (arith, n, few (sized v)),
       refl,
-      (omega (arith, c .before .before .before .before .before .before .before .measure .kept .1 .1 .0, h .few-nodes), c .before .before .before .before .before .before .before .measure .ensures),
+      (omega (arith, c .before .before .before .before .before .before .before .measure .kept .1 .1 .0, h .few-nodes), c .before .before .before .before .before .before .before .measure .ensures .lengths),
       c .before .before .before .before .before .before .before .before .before .fuel-in .ok,
       start e .pre .2,
       z,
@@ -72,7 +73,7 @@ print-pages-requires c κs =
       (
         c .before .before .before .before .before .before .before .before .before .before .before .before .before .before .before .before .before .before .before .before .before .fuel-in .ok,
         p .ensures .1 .0,
-        (omega (arith, c .before .before .before .before .before .before .before .before .before .before .before .before .before .before .before .before .before .before .before .measure .kept .1 .1 .0, h .few-nodes), c .before .before .before .before .before .before .before .before .before .before .before .before .before .before .before .before .before .before .before .measure .ensures),
+        (omega (arith, c .before .before .before .before .before .before .before .before .before .before .before .before .before .before .before .before .before .before .before .measure .kept .1 .1 .0, h .few-nodes), c .before .before .before .before .before .before .before .before .before .before .before .before .before .before .before .before .before .before .before .measure .ensures .lengths),
         omega (arith, p .kept .1 .1 .1 .1 .1 .0, store-length v, few (sized v)),
         omega (arith, room, start e .pre .2),
         omega (arith, room, p .ensures .1 .2),
@@ -94,7 +95,7 @@ print-run-spec =
     (λ c κs. c .before .before .before .before .before .before .before .before .before .pre .0)
     (λ c. search needs)
     (λ c. search needs)
-    (λ c κs. let e = c .before .before .before .before .before .before .before .before in let ok = runs e in let h = is-headed (ok .opens) (ok .holds) in (ok, omega (arith, h .few-nodes), sizes e))
+    (λ c κs. let e = c .before .before .before .before .before .before .before .before in let ok = runs e in let h = is-headed (ok .opens) (ok .holds) in (is-open ok (sizes e), omega (arith, h .few-nodes)))
     (λ c. refl)
     (λ c. refl)
     (λ c. refl)

@@ -1,0 +1,540 @@
+-- `node_text::put_tree` and the functions that write a part of a node meet their contracts: the pieces of a form's text, one after the other.
+-- The measure is three times the node's number, and one more for the whole node, two more for a node with what stands around it.
+use Prim.Native.Nat.{ℕ, _+_, _*_, _<_, max}
+use native.Mathlib.Omega.{arith}
+use mathlib.Core.Path.{_≡_, refl, sym, _∙_, ap}
+use mathlib.Core.List.{_++_}
+use lib.ListN.{length, length-append}
+use mir.Syntax.{w32}
+use mir.Facts.{toZ-ofZ}
+use denote.Ref.{now}
+use borrow.Author.Needs.{needs}
+use borrow.Fn.Kinds.{In}
+use borrow.Fn.PlainCycle.{Measures, is, falls, and}
+use Rattle.l1.specs.Text.{bytes, location, text}
+use Rattle.routine.specs.declared.Form.{Form}
+use Rattle.node_text.specs.Texts.{formAt, textAt, signText, branches}
+use Rattle.node_text.proofs.PutLaws.{put-more, kept, room-first, room-rest}
+use Rattle.node_text.proofs.TextForms.{form-text, children, two-children, assign-text, two-text, while-text, if-text}
+use Rattle.node_text.proofs.put_branches.Reads as put-branches
+use Rattle.node_text.proofs.put_branches.Kinds as put-branches-kinds
+use Rattle.node_text.proofs.+put_branches+put_right+put_tree+put_two+put_while.Lts-put_branches as put-branches-lts
+use Rattle.node_text.proofs.put_right.Reads as put-right
+use Rattle.node_text.proofs.put_right.Kinds as put-right-kinds
+use Rattle.node_text.proofs.+put_branches+put_right+put_tree+put_two+put_while.Lts-put_right as put-right-lts
+use Rattle.node_text.proofs.put_tree.Reads as put-tree
+use Rattle.node_text.proofs.put_tree.Kinds as put-tree-kinds
+use Rattle.node_text.proofs.+put_branches+put_right+put_tree+put_two+put_while.Lts-put_tree as put-tree-lts
+use Rattle.node_text.proofs.put_two.Reads as put-two
+use Rattle.node_text.proofs.put_two.Kinds as put-two-kinds
+use Rattle.node_text.proofs.+put_branches+put_right+put_tree+put_two+put_while.Lts-put_two as put-two-lts
+use Rattle.node_text.proofs.put_while.Reads as put-while
+use Rattle.node_text.proofs.put_while.Kinds as put-while-kinds
+use Rattle.node_text.proofs.+put_branches+put_right+put_tree+put_two+put_while.Lts-put_while as put-while-lts
+use Rattle.routine.proofs.arg_at.Reads as arg-at-reads
+use Rattle.routine.proofs.first_at.Reads as first-at-reads
+use Rattle.routine.proofs.form_at.Reads as form-at-reads
+use Rattle.routine.proofs.integer_at.Reads as integer-at-reads
+use Rattle.routine.proofs.second_at.Reads as second-at-reads
+use Rattle.routine.proofs.third_at.Reads as third-at-reads
+use Rattle.node_text.proofs.put_assigned.Reads as put-assigned-reads
+use Rattle.node_text.proofs.put_byte.Reads as put-byte-reads
+use Rattle.node_text.proofs.put_bytes.Reads as put-bytes-reads
+use Rattle.node_text.proofs.put_deref.Reads as put-deref-reads
+use Rattle.node_text.proofs.put_number.Reads as put-number-reads
+use Rattle.node_text.proofs.put_sign.Reads as put-sign-reads
+use Rattle.node_text.proofs.put_truth.Reads as put-truth-reads
+use Rattle.node_text.proofs.+put_branches+put_right+put_tree+put_two+put_while.{statement}
+use Rattle.node_text.proofs.+put_branches+put_right+put_tree+put_two+put_while.Tie.{close}
+
+abbrev μ-put-branches : Measures 2 put-branches-kinds.ps ℕ
+μ-put-branches κs a = 3 * max (a .1 .1 .0) (a .1 .1 .1 .0) + 2
+
+abbrev μ-put-right : Measures 2 put-right-kinds.ps ℕ
+μ-put-right κs a = 3 * (a .1 .1 .1 .0) + 2
+
+abbrev μ-put-tree : Measures 2 put-tree-kinds.ps ℕ
+μ-put-tree κs a = 3 * (a .1 .1 .0) + 1
+
+abbrev μ-put-two : Measures 2 put-two-kinds.ps ℕ
+μ-put-two κs a = 3 * (a .1 .1 .0)
+
+abbrev μ-put-while : Measures 2 put-while-kinds.ps ℕ
+μ-put-while κs a = 3 * (a .1 .1 .0)
+
+abbrev put-branches-at : ℕ → In 2 put-branches-kinds.ps
+put-branches-at t = and 2 put-branches-kinds.ps (is 2 put-branches-kinds.ps μ-put-branches t) put-branches.Pre
+
+abbrev put-branches-below : ℕ → In 2 put-branches-kinds.ps
+put-branches-below t = and 2 put-branches-kinds.ps (falls 2 put-branches-kinds.ps _<_ μ-put-branches t) put-branches.Pre
+
+abbrev put-right-at : ℕ → In 2 put-right-kinds.ps
+put-right-at t = and 2 put-right-kinds.ps (is 2 put-right-kinds.ps μ-put-right t) put-right.Pre
+
+abbrev put-right-below : ℕ → In 2 put-right-kinds.ps
+put-right-below t = and 2 put-right-kinds.ps (falls 2 put-right-kinds.ps _<_ μ-put-right t) put-right.Pre
+
+abbrev put-tree-at : ℕ → In 2 put-tree-kinds.ps
+put-tree-at t = and 2 put-tree-kinds.ps (is 2 put-tree-kinds.ps μ-put-tree t) put-tree.Pre
+
+abbrev put-tree-below : ℕ → In 2 put-tree-kinds.ps
+put-tree-below t = and 2 put-tree-kinds.ps (falls 2 put-tree-kinds.ps _<_ μ-put-tree t) put-tree.Pre
+
+abbrev put-two-at : ℕ → In 2 put-two-kinds.ps
+put-two-at t = and 2 put-two-kinds.ps (is 2 put-two-kinds.ps μ-put-two t) put-two.Pre
+
+abbrev put-two-below : ℕ → In 2 put-two-kinds.ps
+put-two-below t = and 2 put-two-kinds.ps (falls 2 put-two-kinds.ps _<_ μ-put-two t) put-two.Pre
+
+abbrev put-while-at : ℕ → In 2 put-while-kinds.ps
+put-while-at t = and 2 put-while-kinds.ps (is 2 put-while-kinds.ps μ-put-while t) put-while.Pre
+
+abbrev put-while-below : ℕ → In 2 put-while-kinds.ps
+put-while-below t = and 2 put-while-kinds.ps (falls 2 put-while-kinds.ps _<_ μ-put-while t) put-while.Pre
+
+-- ---- a sign, and what is to the right of it
+
+module _ (t : ℕ) where
+  abbrev right-claims : put-right-lts.Claims
+  right-claims = (put-sign-reads.Asked, put-sign-reads.Learnt, put-tree-below t, put-tree.Post, put-byte-reads.Asked, put-byte-reads.Learnt)
+
+  right-sign : put-right-lts.Need-put-sign-requires right-claims (put-right-at t) put-right.Post
+  right-sign c κs =
+      let s = c .before .before .before in let (m, (o, h, room)) = s .pre in
+      omega (arith, simp length-append at room)
+
+  right-node : put-right-lts.Need-put-tree-requires right-claims (put-right-at t) put-right.Post
+  right-node c κs =
+      let w = c .before .before .before in let (m, (o, h, room)) = w .before .before .before .before .pre in
+      (omega arith, (o, h, omega (arith, simp length-append at room, kept (w .put-sign .ensures), w .put-sign .ensures .next)))
+
+  right-bracket : put-right-lts.Need-put-byte-requires right-claims (put-right-at t) put-right.Post
+  right-bracket c κs =
+      let v = c .before .before .before in let w = v .before .before .before .before in let (m, (o, h, room)) = w .before .before .before .before .pre in
+      omega (arith, room-rest (bytes ")") (put-more (w .put-sign .ensures) (v .put-tree .ensures)) room)
+
+  right : put-right-lts.Need-returns right-claims (put-right-at t) put-right.Post
+  right c =
+      let u = c .before .before in let v = u .before .before .before .before in let w = v .before .before .before .before in
+      put-more (put-more (w .put-sign .ensures) (v .put-tree .ensures)) (u .put-byte .ensures)
+
+-- ---- two parts with a sign between them
+
+module _ (t : ℕ) where
+  abbrev two-claims : put-two-lts.Claims
+  two-claims = (
+    put-byte-reads.Asked,
+    put-byte-reads.Learnt,
+    first-at-reads.Asked,
+    first-at-reads.Learnt,
+    put-tree-below t,
+    put-tree.Post,
+    second-at-reads.Asked,
+    second-at-reads.Learnt,
+    put-right-below t,
+    put-right.Post,
+  )
+
+  two-bracket : put-two-lts.Need-put-byte-requires two-claims (put-two-at t) put-two.Post
+  two-bracket c κs =
+      let s = c .before .before .before in let (m, (o, h, room, e)) = s .pre in
+      omega (arith, simp length-append at (ap length (two-text o h refl refl (s .args .s) e)))
+
+  two-first : put-two-lts.Need-put-tree-requires two-claims (put-two-at t) put-two.Post
+  two-first c κs =
+      let x = c .before in let w = x .before .before .before in let s = w .before .before .before .before in let (m, (o, h, room, e)) = s .pre in
+      let p = x .first-at .ensures in let j = two-children o h (s .args .s) e in
+      let l = simp length-append at (ap length (two-text o h p refl (s .args .s) e)) in
+      (omega arith, (o, omega arith, omega (arith, kept (w .put-byte .ensures))))
+
+  two-right : put-two-lts.Need-put-right-requires two-claims (put-two-at t) put-two.Post
+  two-right c κs =
+      let y = c .before in let v = y .before .before .before in let x = v .before .before in let w = x .before .before .before in
+      let s = w .before .before .before .before in let (m, (o, h, room, e)) = s .pre in
+      let q = y .second-at .ensures in let j = two-children o h (s .args .s) e in
+      let d = put-more (w .put-byte .ensures) (v .put-tree .ensures) in
+      (omega arith, (o, omega arith, room-rest _ d (rw (two-text o h (x .first-at .ensures) q (s .args .s) e) at room)))
+
+  two : put-two-lts.Need-returns two-claims (put-two-at t) put-two.Post
+  two c =
+      let u = c .before .before in let y = u .before .before in let v = y .before .before .before in let x = v .before .before in
+      let w = x .before .before .before in let s = w .before .before .before .before in let (m, (o, h, room, e)) = s .pre in
+      rw (two-text o h (x .first-at .ensures) (y .second-at .ensures) (s .args .s) e)
+      (put-more (put-more (w .put-byte .ensures) (v .put-tree .ensures)) (u .put-right .ensures))
+
+-- ---- the branches of a conditional
+
+module _ (t : ℕ) where
+  abbrev branches-claims : put-branches-lts.Claims
+  branches-claims = (put-bytes-reads.Asked, put-bytes-reads.Learnt, put-tree-below t, put-tree.Post, put-byte-reads.Asked, put-byte-reads.Learnt)
+
+  then-word : put-branches-lts.Need-put-bytes-requires branches-claims (put-branches-at t) put-branches.Post
+  then-word c κs =
+      let (m, (o, h, g, room)) = c .before .before .before .before .pre in
+      omega (arith, simp length-append at room)
+
+  then-node : put-branches-lts.Need-put-tree-requires branches-claims (put-branches-at t) put-branches.Post
+  then-node c κs =
+      let w = c .before .before .before in let (m, (o, h, g, room)) = w .before .before .before .before .before .pre in
+      (omega arith, (o, h, omega (arith, simp length-append at room, kept (w .put-bytes .ensures), w .put-bytes .ensures .next)))
+
+  else-word : put-branches-lts.Need-put-bytes-requires-2 branches-claims (put-branches-at t) put-branches.Post
+  else-word c κs =
+      let v = c .before .before .before .before in let w = v .before .before .before .before in
+      let (m, (o, h, g, room)) = w .before .before .before .before .before .pre in
+      let d = put-more (w .put-bytes .ensures) (v .put-tree .ensures) in
+      omega (arith, simp length-append at room, kept d, simp length-append at (d .next))
+
+  else-node : put-branches-lts.Need-put-tree-requires-2 branches-claims (put-branches-at t) put-branches.Post
+  else-node c κs =
+      let u = c .before .before .before in let v = u .before .before .before .before .before in let w = v .before .before .before .before in
+      let (m, (o, h, g, room)) = w .before .before .before .before .before .pre in
+      let d = put-more (put-more (w .put-bytes .ensures) (v .put-tree .ensures)) (u .put-bytes2 .ensures) in
+      (omega arith, (o, g, omega (arith, simp length-append at room, kept d, simp length-append at (d .next))))
+
+  else-bracket : put-branches-lts.Need-put-byte-requires branches-claims (put-branches-at t) put-branches.Post
+  else-bracket c κs =
+      let q = c .before .before .before in let u = q .before .before .before .before in let v = u .before .before .before .before .before in
+      let w = v .before .before .before .before in let (m, (o, h, g, room)) = w .before .before .before .before .before .pre in
+      let d = put-more (put-more (put-more (w .put-bytes .ensures) (v .put-tree .ensures)) (u .put-bytes2 .ensures)) (q .put-tree2 .ensures) in
+      omega (arith, room-rest (bytes ")") d room)
+
+  both-branches : put-branches-lts.Need-returns branches-claims (put-branches-at t) put-branches.Post
+  both-branches c =
+      let r = c .before .before in let q = r .before .before .before .before in let u = q .before .before .before .before in
+      let v = u .before .before .before .before .before in let w = v .before .before .before .before in
+      put-more (put-more (put-more (put-more (w .put-bytes .ensures) (v .put-tree .ensures)) (u .put-bytes2 .ensures)) (q .put-tree2 .ensures)) (r .put-byte .ensures)
+
+-- ---- a loop
+
+module _ (t : ℕ) where
+  abbrev while-claims : put-while-lts.Claims
+  while-claims = (
+    put-bytes-reads.Asked,
+    put-bytes-reads.Learnt,
+    first-at-reads.Asked,
+    first-at-reads.Learnt,
+    put-tree-below t,
+    put-tree.Post,
+    second-at-reads.Asked,
+    second-at-reads.Learnt,
+  )
+
+  while-word : put-while-lts.Need-put-bytes-requires while-claims (put-while-at t) put-while.Post
+  while-word c κs =
+      let (m, (o, h, room, e)) = c .before .before .before .before .pre in
+      omega (arith, simp length-append at (ap length (while-text o h refl refl e)))
+
+  while-first : put-while-lts.Need-put-tree-requires while-claims (put-while-at t) put-while.Post
+  while-first c κs =
+      let x = c .before in let w = x .before .before .before in let (m, (o, h, room, e)) = w .before .before .before .before .before .pre in
+      let p = x .first-at .ensures in let j = children o h e in let l = simp length-append at (ap length (while-text o h p refl e)) in
+      (omega arith, (o, omega arith, omega (arith, kept (w .put-bytes .ensures))))
+
+  while-second-word : put-while-lts.Need-put-bytes-requires-2 while-claims (put-while-at t) put-while.Post
+  while-second-word c κs =
+      let v = c .before .before .before .before in let x = v .before .before in let w = x .before .before .before in
+      let (m, (o, h, room, e)) = w .before .before .before .before .before .pre in
+      let d = put-more (w .put-bytes .ensures) (v .put-tree .ensures) in
+      let l = simp length-append at (ap length (while-text o h (x .first-at .ensures) refl e)) in
+      omega (arith, kept d)
+
+  while-second : put-while-lts.Need-put-tree-requires-2 while-claims (put-while-at t) put-while.Post
+  while-second c κs =
+      let y = c .before in let u = y .before .before .before in let v = u .before .before .before .before .before in let x = v .before .before in
+      let w = x .before .before .before in let (m, (o, h, room, e)) = w .before .before .before .before .before .pre in
+      let p = y .second-at .ensures in let j = children o h e in
+      let d = put-more (put-more (w .put-bytes .ensures) (v .put-tree .ensures)) (u .put-bytes2 .ensures) in
+      let l = simp length-append at (ap length (while-text o h (x .first-at .ensures) p e)) in
+      (omega arith, (o, omega arith, omega (arith, kept d)))
+
+  while-third-word : put-while-lts.Need-put-bytes-requires-3 while-claims (put-while-at t) put-while.Post
+  while-third-word c κs =
+      let q = c .before .before .before .before in let y = q .before .before in let u = y .before .before .before in
+      let v = u .before .before .before .before .before in let x = v .before .before in let w = x .before .before .before in
+      let (m, (o, h, room, e)) = w .before .before .before .before .before .pre in
+      let d = put-more (put-more (put-more (w .put-bytes .ensures) (v .put-tree .ensures)) (u .put-bytes2 .ensures)) (q .put-tree2 .ensures) in
+      let l = simp length-append at (ap length (while-text o h (x .first-at .ensures) (y .second-at .ensures) e)) in
+      omega (arith, kept d)
+
+  while-all : put-while-lts.Need-returns while-claims (put-while-at t) put-while.Post
+  while-all c =
+      let r = c .before .before in let q = r .before .before .before .before .before in let y = q .before .before in
+      let u = y .before .before .before in let v = u .before .before .before .before .before in let x = v .before .before in
+      let w = x .before .before .before in let (m, (o, h, room, e)) = w .before .before .before .before .before .pre in
+      rw (while-text o h (x .first-at .ensures) (y .second-at .ensures) e) (put-more (put-more (put-more (put-more (w .put-bytes .ensures) (v .put-tree .ensures)) (u .put-bytes2 .ensures)) (q .put-tree2 .ensures)) (r .put-bytes3 .ensures))
+
+-- ---- the whole node
+
+module _ (t : ℕ) where
+  abbrev tree-claims : put-tree-lts.Claims
+  tree-claims = (
+    form-at-reads.Asked,
+    form-at-reads.Learnt,
+    integer-at-reads.Asked,
+    integer-at-reads.Learnt,
+    put-number-reads.Asked,
+    put-number-reads.Learnt,
+    arg-at-reads.Asked,
+    arg-at-reads.Learnt,
+    put-truth-reads.Asked,
+    put-truth-reads.Learnt,
+    put-two-below t,
+    put-two.Post,
+    put-bytes-reads.Asked,
+    put-bytes-reads.Learnt,
+    first-at-reads.Asked,
+    first-at-reads.Learnt,
+    put-tree-below t,
+    put-tree.Post,
+    second-at-reads.Asked,
+    second-at-reads.Learnt,
+    third-at-reads.Asked,
+    third-at-reads.Learnt,
+    put-branches-below t,
+    put-branches.Post,
+    put-assigned-reads.Asked,
+    put-assigned-reads.Learnt,
+    put-byte-reads.Asked,
+    put-byte-reads.Learnt,
+    put-deref-reads.Asked,
+    put-deref-reads.Learnt,
+    put-while-below t,
+    put-while.Post,
+  )
+
+  form : (g : put-tree-lts.After-form-at tree-claims (put-tree-at t) put-tree.Post) {F : Form} → g .form-at .result ≡ F
+      → formAt (now (g .before .before .before .args .b)) (g .before .before .before .args .i) ≡ F
+  form g found = sym (g .form-at .ensures) ∙ found
+
+  integer-room : put-tree-lts.Need-put-number-requires tree-claims (put-tree-at t) put-tree.Post
+  unfolding text
+  integer-room c κs =
+      let a = c .before in let k = a .before in let g = k .before .before in let (m, (o, h, room)) = g .before .before .before .pre in
+      let e = form g (k .enum-told .given .1) in
+      rw (toZ-ofZ {w = w32} (record { sfits = a .integer-at .ok }) ∙ a .integer-at .ensures) (rw (form-text o h e) at room)
+
+  integer : put-tree-lts.Need-returns tree-claims (put-tree-at t) put-tree.Post
+  unfolding text
+  integer c =
+      let p = c .before .before in let a = p .before .before in let k = a .before in let g = k .before .before in
+      let (m, (o, h, room)) = g .before .before .before .pre in let e = form g (k .enum-told .given .1) in
+      rw (form-text o h e) (rw (toZ-ofZ {w = w32} (record { sfits = a .integer-at .ok }) ∙ a .integer-at .ensures) at (p .put-number .ensures))
+
+  boolean-room : put-tree-lts.Need-put-truth-requires tree-claims (put-tree-at t) put-tree.Post
+  unfolding text
+  boolean-room c κs =
+      let a = c .before in let k = a .before in let g = k .before .before in let (m, (o, h, room)) = g .before .before .before .pre in
+      let e = form g (k .enum-told2 .given .1) in
+      rw (a .arg-at .ensures) (rw (form-text o h e) at room)
+
+  boolean : put-tree-lts.Need-returns-2 tree-claims (put-tree-at t) put-tree.Post
+  unfolding text
+  boolean c =
+      let p = c .before .before in let a = p .before .before in let k = a .before in let g = k .before .before in
+      let (m, (o, h, room)) = g .before .before .before .pre in let e = form g (k .enum-told2 .given .1) in
+      rw (form-text o h e) (rw (a .arg-at .ensures) at (p .put-truth .ensures))
+
+  deref-room : put-tree-lts.Need-put-deref-requires tree-claims (put-tree-at t) put-tree.Post
+  unfolding text
+  deref-room c κs =
+      let a = c .before in let k = a .before in let g = k .before .before in let (m, (o, h, room)) = g .before .before .before .pre in
+      let e = form g (k .enum-told7 .given .1) in
+      rw (a .arg-at3 .ensures) (rw (form-text o h e) at room)
+
+  deref : put-tree-lts.Need-returns-7 tree-claims (put-tree-at t) put-tree.Post
+  unfolding text
+  deref c =
+      let p = c .before .before in let a = p .before .before in let k = a .before in let g = k .before .before in
+      let (m, (o, h, room)) = g .before .before .before .pre in let e = form g (k .enum-told7 .given .1) in
+      rw (form-text o h e) (rw (a .arg-at3 .ensures) at (p .put-deref .ensures))
+
+  skip-room : put-tree-lts.Need-put-bytes-requires-2 tree-claims (put-tree-at t) put-tree.Post
+  unfolding text
+  skip-room c κs =
+      let k = c .before .before in let g = k .before .before in let (m, (o, h, room)) = g .before .before .before .pre in
+      let e = form g (k .enum-told8 .given .1) in
+      rw (form-text o h e) at room
+
+  skip : put-tree-lts.Need-returns-8 tree-claims (put-tree-at t) put-tree.Post
+  unfolding text
+  skip c =
+      let p = c .before .before in let k = p .before .before .before in let g = k .before .before in
+      let (m, (o, h, room)) = g .before .before .before .pre in let e = form g (k .enum-told8 .given .1) in
+      rw (form-text o h e) (p .put-bytes2 .ensures)
+
+  if-word : put-tree-lts.Need-put-bytes-requires tree-claims (put-tree-at t) put-tree.Post
+  if-word c κs =
+      let k = c .before .before in let g = k .before .before in let (m, (o, h, room)) = g .before .before .before .pre in
+      let e = form g (k .enum-told5 .given .1) in
+      omega (arith, simp length-append at (ap length (if-text o h refl refl refl e)))
+
+  if-test : put-tree-lts.Need-put-tree-requires tree-claims (put-tree-at t) put-tree.Post
+  if-test c κs =
+      let x = c .before in let w = x .before .before .before in let k = w .before .before .before in let g = k .before .before in
+      let (m, (o, h, room)) = g .before .before .before .pre in let e = form g (k .enum-told5 .given .1) in let p = x .first-at .ensures in
+      let j = children o h e in let l = simp length-append at (ap length (if-text o h p refl refl e)) in
+      (omega arith, (o, omega arith, omega (arith, kept (w .put-bytes .ensures))))
+
+  if-branches : put-tree-lts.Need-put-branches-requires tree-claims (put-tree-at t) put-tree.Post
+  if-branches c κs =
+      let n = c .before in let y = n .before in let v = y .before .before .before in let x = v .before .before in
+      let w = x .before .before .before in let k = w .before .before .before in let g = k .before .before in
+      let (m, (o, h, room)) = g .before .before .before .pre in let e = form g (k .enum-told5 .given .1) in
+      let j = children o h e in let q = y .second-at .ensures in let r = n .third-at .ensures in
+      let d = put-more (w .put-bytes .ensures) (v .put-tree .ensures) in
+      (omega arith, (o, omega arith, omega arith, room-rest _ d (rw (if-text o h (x .first-at .ensures) q r e) at room)))
+
+  if-all : put-tree-lts.Need-returns-5 tree-claims (put-tree-at t) put-tree.Post
+  if-all c =
+      let u = c .before .before in let n = u .before .before in let y = n .before in let v = y .before .before .before in
+      let x = v .before .before in let w = x .before .before .before in let k = w .before .before .before in let g = k .before .before in
+      let (m, (o, h, room)) = g .before .before .before .pre in let e = form g (k .enum-told5 .given .1) in
+      rw (if-text o h (x .first-at .ensures) (y .second-at .ensures) (n .third-at .ensures) e)
+      (put-more (put-more (w .put-bytes .ensures) (v .put-tree .ensures)) (u .put-branches .ensures))
+
+  assign-location : put-tree-lts.Need-put-assigned-requires tree-claims (put-tree-at t) put-tree.Post
+  assign-location c κs =
+      let a = c .before in let k = a .before in let g = k .before .before in let (m, (o, h, room)) = g .before .before .before .pre in
+      let e = form g (k .enum-told6 .given .1) in
+      let l = simp length-append at (ap length (assign-text o h refl (a .arg-at2 .ensures) e)) in
+      simp length-append (omega arith)
+
+  assign-value : put-tree-lts.Need-put-tree-requires-2 tree-claims (put-tree-at t) put-tree.Post
+  assign-value c κs =
+      let x = c .before in let w = x .before .before .before in let a = w .before .before in let k = a .before in let g = k .before .before in
+      let (m, (o, h, room)) = g .before .before .before .pre in let e = form g (k .enum-told6 .given .1) in let p = x .first-at2 .ensures in
+      let j = children o h e in let l = simp length-append at (ap length (assign-text o h p (a .arg-at2 .ensures) e)) in
+      (omega arith, (o, omega arith, omega (arith, kept (w .put-assigned .ensures), simp length-append at (w .put-assigned .ensures .next))))
+
+  assign-bracket : put-tree-lts.Need-put-byte-requires tree-claims (put-tree-at t) put-tree.Post
+  assign-bracket c κs =
+      let v = c .before .before .before in let x = v .before .before in let w = x .before .before .before in let a = w .before .before in
+      let k = a .before in let g = k .before .before in let (m, (o, h, room)) = g .before .before .before .pre in
+      let e = form g (k .enum-told6 .given .1) in
+      let d = put-more (w .put-assigned .ensures) (v .put-tree2 .ensures) in
+      omega (arith, room-rest (bytes ")") d (rw (assign-text o h (x .first-at2 .ensures) (a .arg-at2 .ensures) e) at room))
+
+  assign : put-tree-lts.Need-returns-6 tree-claims (put-tree-at t) put-tree.Post
+  assign c =
+      let u = c .before .before in let v = u .before .before .before .before in let x = v .before .before in let w = x .before .before .before in
+      let a = w .before .before in let k = a .before in let g = k .before .before in let (m, (o, h, room)) = g .before .before .before .pre in
+      let e = form g (k .enum-told6 .given .1) in
+      rw (assign-text o h (x .first-at2 .ensures) (a .arg-at2 .ensures) e)
+      (put-more (put-more (w .put-assigned .ensures) (v .put-tree2 .ensures)) (u .put-byte .ensures))
+
+pub +put-branches+put-right+put-tree+put-two+put-while-spec : {M : Type 1} → statement M
++put-branches+put-right+put-tree+put-two+put-while-spec =
+    close μ-put-branches μ-put-right μ-put-tree μ-put-two μ-put-while
+    (λ t. put-branches-lts.spec
+    (branches-claims t)
+    (put-branches-at t)
+    put-branches.Post
+    (λ c. search needs)
+    (then-word t)
+    (then-node t)
+    (λ c. search needs)
+    (else-word t)
+    (else-node t)
+    (else-bracket t)
+    (λ c. search needs)
+    (both-branches t))
+    (λ t. put-right-lts.spec
+    (right-claims t)
+    (put-right-at t)
+    put-right.Post
+    (right-sign t)
+    (right-node t)
+    (right-bracket t)
+    (λ c. search needs)
+    (right t))
+    (λ t. put-tree-lts.spec
+    (tree-claims t)
+    (put-tree-at t)
+    put-tree.Post
+    (λ c κs. search needs)
+    (λ c. search needs)
+    (λ c κs. search needs)
+    (integer-room t)
+    (λ c. search needs)
+    (λ c κs. search needs)
+    (boolean-room t)
+    (λ c. search needs)
+    (λ c κs. let k = c .before in let g = k .before .before in let (m, (o, h, room)) = g .before .before .before .pre in (omega arith, (o, h, room, form t g (k .enum-told3 .given .1))))
+    (λ c. search needs)
+    (λ c κs. let k = c .before in let g = k .before .before in let (m, (o, h, room)) = g .before .before .before .pre in (omega arith, (o, h, room, form t g (k .enum-told4 .given .1))))
+    (λ c. search needs)
+    (λ c. search needs)
+    (if-word t)
+    (λ c κs. search needs)
+    (if-test t)
+    (λ c κs. search needs)
+    (λ c κs. search needs)
+    (if-branches t)
+    (λ c. search needs)
+    (λ c κs. search needs)
+    (λ c. search needs)
+    (assign-location t)
+    (λ c κs. search needs)
+    (assign-value t)
+    (assign-bracket t)
+    (λ c. search needs)
+    (λ c κs. search needs)
+    (λ c. search needs)
+    (deref-room t)
+    (λ c. search needs)
+    (λ c. search needs)
+    (skip-room t)
+    (λ c. search needs)
+    (λ c κs. let k = c .before in let g = k .before .before in let (m, (o, h, room)) = g .before .before .before .pre in (omega arith, (o, h, room, form t g (k .enum-told9 .given .1))))
+    (λ c. search needs)
+    (λ c κs. let k = c .before in let g = k .before .before in let (m, (o, h, room)) = g .before .before .before .pre in (omega arith, (o, h, room, form t g (k .enum-told10 .given .1))))
+    (λ c. search needs)
+    (λ c. search needs)
+    (integer t)
+    (λ c. search needs)
+    (boolean t)
+    (λ c. search needs)
+    (λ c. c .before .before .put-two .ensures)
+    (λ c. search needs)
+    (λ c. c .before .before .put-two2 .ensures)
+    (λ c. search needs)
+    (if-all t)
+    (λ c. search needs)
+    (assign t)
+    (λ c. search needs)
+    (deref t)
+    (λ c. search needs)
+    (skip t)
+    (λ c. search needs)
+    (λ c. c .before .before .put-two3 .ensures)
+    (λ c. search needs)
+    (λ c. c .before .before .put-while .ensures)
+    (λ c. let g = c .before .before in let s = g .before .before .before in absurd (children (s .pre .1 .0) (s .pre .1 .1) (form t g (c .enum-told11 .given .1)))))
+    (λ t. put-two-lts.spec
+    (two-claims t)
+    (put-two-at t)
+    put-two.Post
+    (two-bracket t)
+    (λ c κs. search needs)
+    (two-first t)
+    (λ c κs. search needs)
+    (two-right t)
+    (λ c. search needs)
+    (two t))
+    (λ t. put-while-lts.spec
+    (while-claims t)
+    (put-while-at t)
+    put-while.Post
+    (λ c. search needs)
+    (while-word t)
+    (λ c κs. search needs)
+    (while-first t)
+    (λ c. search needs)
+    (while-second-word t)
+    (λ c κs. search needs)
+    (while-second t)
+    (λ c. search needs)
+    (while-third-word t)
+    (λ c. search needs)
+    (while-all t))
