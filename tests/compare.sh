@@ -1,42 +1,74 @@
 #!/bin/sh
-# Holds the product against the reference: rows of every kind, good, ill typed, damaged and at the limits, checked and run, and every tenth chunk shown and traced
-# as well. Prints the number of rows, and how many differ.
+# Holds the program `rows` against the reference: rows of every kind, good, ill typed, damaged and at the limits, checked and run, and every tenth thousand shown and
+# traced as well; records that are not answered; a file that is cut at each of its bytes; an input that can't be read. Prints the number of rows and how many
+# lines differ, and fails where one does.
 #
 #     sh tests/compare.sh [ROWS OF EACH KIND] [SEED]
 #
-# The programs must stand in target/bin (`rt check` builds them). RUN is put before each of them, for a machine that needs an emulator.
+# It needs rustc, and builds the program with `rt check rows`: where nothing is proved yet, that proves all that `rows` stands on, which takes minutes. RUN is put
+# before the program, for a machine that needs an emulator.
 set -e
 cd "$(dirname "$0")/.."
 each=${1:-50000} seed=${2:-1} chunk=1000
-work=target/compare
+work=target/compare program=target/bin/rows
 mkdir -p "$work"
 rustc --edition 2021 -O -o "$work/reference" tests/reference/main.rs
+rt check rows >&2
+if ! $RUN "$program" </dev/null >/dev/null 2>&1; then
+    cat >&2 <<END
+$program is compiled for x86-64 Linux and can't be run here. Set RUN to a command that runs such programs: it is put before the program.
+The kit has one for Arm: RUN="\$K/bin/qemu-x86_64 \$K/lib/ld-linux-x86-64.so.2 --library-path \$K/lib", where K is on/aarch64/toolchain in the kit's folder.
+END
+    exit 2
+fi
 rows=0 differ=0
 
-# the lines of the reference's mode $1 and of the program $2 over the chunk
+# Counts the lines by which $work/expected and $work/found differ, of both sides, and keeps what was read under the name $1.
+count() {
+    cmp -s "$work/expected" "$work/found" && return
+    lines=$(diff -a "$work/expected" "$work/found" | grep -a -c '^[<>]' || true)
+    [ "$lines" -gt 0 ] || lines=1
+    differ=$((differ + lines))
+    cp "$work/rows" "$work/differs-$1.rows"
+    echo "$lines lines differ: $work/differs-$1.rows" >&2
+}
+
+# The lines of the reference and of the program over $work/rows.
 compare() {
-    "$work/reference" "$1" <"$work/rows" >"$work/expected"
-    $RUN "target/bin/$2" <"$work/rows" >"$work/found"
-    if ! cmp -s "$work/expected" "$work/found"; then
-        lines=$(diff "$work/expected" "$work/found" | grep -c '^<' || true)
-        differ=$((differ + lines))
-        cp "$work/rows" "$work/differs-$2-$seed.rows"
-    fi
+    "$work/reference" answers <"$work/rows" >"$work/expected"
+    $RUN "$program" <"$work/rows" >"$work/found" || echo "did not come to its end" >>"$work/found"
+    count "$1"
 }
 
 done=0
 while [ "$done" -lt "$each" ]; do
+    questions=cr
+    [ $((done / chunk % 10)) -ne 0 ] || questions=crxt
     for kind in good illtyped damaged limits; do
-        "$work/reference" generate "$kind" "$seed" "$chunk" >"$work/rows"
-        compare check check_rows
-        compare run run_rows
-        if [ $((done / chunk % 10)) -eq 0 ]; then
-            compare texts text_rows
-            compare traces trace_rows
-        fi
+        "$work/reference" generate "$kind" "$seed" "$chunk" "$questions" >"$work/rows"
+        compare "$kind-$seed"
         rows=$((rows + chunk))
     done
     done=$((done + chunk))
     seed=$((seed + 1))
 done
+
+"$work/reference" faults >"$work/rows"
+compare faults
+
+"$work/reference" small >"$work/small"
+at=0
+while [ "$at" -lt "$(wc -c <"$work/small")" ]; do
+    head -c "$at" "$work/small" >"$work/rows"
+    compare "cut-$at"
+    at=$((at + 1))
+done
+
+echo "rows: the input could not be read" >"$work/expected"
+: >"$work/rows"
+$RUN "$program" <"$work" >"$work/found" 2>"$work/said" || echo "did not come to its end" >>"$work/found"
+cat "$work/said" >>"$work/found"
+count unreadable
+
 echo "$rows rows, $differ differ"
+[ "$differ" -eq 0 ]

@@ -5,14 +5,15 @@ use crate::good::good_row;
 use crate::illtyped::illtyped_row;
 use crate::limits::limits_row;
 use crate::random::Random;
-use crate::rows::{record, Row};
+use crate::rows::{records, Row};
 use crate::run::run;
 use std::io::{self, Write};
 
-pub fn generate(kind: &str, seed: u64, count: u64, out: &mut impl Write) -> io::Result<()> {
+/// So many rows, each asked each of the questions.
+pub fn generate(kind: &str, seed: u64, count: u64, questions: &str, out: &mut impl Write) -> io::Result<()> {
     let mut random = Random::new(seed);
     for _ in 0..count {
-        out.write_all(&record(&a_row(kind, &mut random)))?;
+        out.write_all(&records(questions, &a_row(kind, &mut random)))?;
     }
     Ok(())
 }

@@ -1,7 +1,9 @@
 //! Run by `rustc --test`: 01's example, its rows, its limits, and properties
 //! that 01 and 2.3 state, on generated rows.
 
+use crate::answers::answers;
 use crate::expr::{depth, size, text, Tree};
+use crate::faults;
 use crate::generate::a_row;
 use crate::parse::parse;
 use crate::random::Random;
@@ -44,7 +46,7 @@ fn ran(m: u8, routine: &str, l0: i32, fuel: u32) -> (String, i32) {
     }
 }
 
-fn answers(routine: &str, l0: i32, fuel: u32, line: &str, l0_after: i32) {
+fn ends(routine: &str, l0: i32, fuel: u32, line: &str, l0_after: i32) {
     assert_eq!(ran(1, routine, l0, fuel), (line.to_string(), l0_after), "{routine}");
 }
 
@@ -67,21 +69,21 @@ fn worked_example() {
 
 #[test]
 fn rows_from_the_training_course() {
-    answers("(l0 := (!l0 + 25))", 1875, 100, "value skip steps 3 loops 0", 1900);
-    answers("7", 0, 0, "value 7 steps 0 loops 0", 0);
-    answers("(l0 := 1)", 9, 0, "fuel steps 0 loops 0", 9);
-    answers("((l0 := 1) ; !l0)", 9, 100, "value 1 steps 3 loops 0", 1);
-    answers("(true + skip)", 0, 100, "refused 21 at 2", 0);
-    answers("(5 ; skip)", 0, 100, "refused 21 at 2", 0);
-    answers("(if true then 1 else skip)", 0, 100, "refused 23 at 3", 0);
+    ends("(l0 := (!l0 + 25))", 1875, 100, "value skip steps 3 loops 0", 1900);
+    ends("7", 0, 0, "value 7 steps 0 loops 0", 0);
+    ends("(l0 := 1)", 9, 0, "fuel steps 0 loops 0", 9);
+    ends("((l0 := 1) ; !l0)", 9, 100, "value 1 steps 3 loops 0", 1);
+    ends("(true + skip)", 0, 100, "refused 21 at 2", 0);
+    ends("(5 ; skip)", 0, 100, "refused 21 at 2", 0);
+    ends("(if true then 1 else skip)", 0, 100, "refused 23 at 3", 0);
     assert_eq!(ran(0, "!l0", 0, 100).0, "refused 20 at 0");
-    answers("(2147483647 + 0)", 0, 100, "value 2147483647 steps 1 loops 0", 0);
-    answers("(2147483647 + 1)", 0, 0, "overflow at 2 steps 0 loops 0", 0);
-    answers("(while false do skip done)", 0, 100, "value skip steps 2 loops 1", 0);
-    answers("(while true do skip done)", 0, 5, "fuel steps 5 loops 2", 0);
-    answers(LOOP, 2, 100, "value skip steps 20 loops 3", 0);
-    answers(LOOP, 2, 19, "fuel steps 19 loops 3", 0);
-    answers("(-2147483648 + -1)", 0, 100, "overflow at 2 steps 0 loops 0", 0);
+    ends("(2147483647 + 0)", 0, 100, "value 2147483647 steps 1 loops 0", 0);
+    ends("(2147483647 + 1)", 0, 0, "overflow at 2 steps 0 loops 0", 0);
+    ends("(while false do skip done)", 0, 100, "value skip steps 2 loops 1", 0);
+    ends("(while true do skip done)", 0, 5, "fuel steps 5 loops 2", 0);
+    ends(LOOP, 2, 100, "value skip steps 20 loops 3", 0);
+    ends(LOOP, 2, 19, "fuel steps 19 loops 3", 0);
+    ends("(-2147483648 + -1)", 0, 100, "overflow at 2 steps 0 loops 0", 0);
 }
 
 #[test]
@@ -237,17 +239,17 @@ fn balanced_digits(count: usize) -> Tree {
 
 #[test]
 fn overflow_before_spent_fuel_and_value_before_both() {
-    answers("((l0 := 3) ; (!l0 + 2147483647))", 9, 3, "overflow at 4 steps 3 loops 0", 3);
-    answers("((l0 := 3) ; (!l0 + 2147483647))", 9, 2, "fuel steps 2 loops 0", 3);
-    answers("(1 + 1)", 9, 1, "value 2 steps 1 loops 0", 9);
-    answers("(1 + 1)", 9, 0, "fuel steps 0 loops 0", 9);
-    answers("(if true then 1 else (2147483647 + 1))", 9, 9, "value 1 steps 1 loops 0", 9);
+    ends("((l0 := 3) ; (!l0 + 2147483647))", 9, 3, "overflow at 4 steps 3 loops 0", 3);
+    ends("((l0 := 3) ; (!l0 + 2147483647))", 9, 2, "fuel steps 2 loops 0", 3);
+    ends("(1 + 1)", 9, 1, "value 2 steps 1 loops 0", 9);
+    ends("(1 + 1)", 9, 0, "fuel steps 0 loops 0", 9);
+    ends("(if true then 1 else (2147483647 + 1))", 9, 9, "value 1 steps 1 loops 0", 9);
 }
 
 #[test]
 fn overflow_in_a_second_turn_keeps_the_number() {
     let routine = "(while true do (l0 := (!l0 + 1)) done)";
-    answers(routine, 2147483646, 100, "overflow at 3 steps 9 loops 2", 2147483647);
+    ends(routine, 2147483646, 100, "overflow at 3 steps 9 loops 2", 2147483647);
 }
 
 #[test]
@@ -265,9 +267,52 @@ fn some_rows(kind: &str, count: usize) -> Vec<Row> {
 #[test]
 fn rows_files_come_back() {
     for row in some_rows("mixed", 300) {
-        let back = read_rows(&record(&row)).pop().unwrap();
-        assert_eq!((&back.bytes, back.fuel, &back.store), (&row.bytes, row.fuel, &row.store));
+        let (question, back) = read_rows(&record(b'x', &row)).pop().unwrap();
+        assert_eq!((question, &back.bytes, back.fuel, &back.store), (b'x', &row.bytes, row.fuel, &row.store));
     }
+}
+
+fn answered(file: &[u8]) -> String {
+    let mut out = Vec::new();
+    answers(file, &mut out).unwrap();
+    String::from_utf8(out).unwrap()
+}
+
+/// The lines of 01's worked example for the four questions.
+const SMALL: [&str; 4] = [
+    "unit 3 1 1\n",
+    "value skip steps 3 loops 0 | 1900\n",
+    "4 3 skip\nrefused 32 needs 4\n4 3 skip\n",
+    "0 start (l0 := (!l0 + 25)) | 1875\n1 deref (l0 := (1875 + 25)) | 1875\n2 plus (l0 := 1900) | 1875\n\
+     3 assign skip | 1900\nvalue skip steps 3 loops 0\n",
+];
+
+#[test]
+fn each_question_has_its_lines() {
+    assert_eq!(answered(&faults::small()), SMALL.concat());
+}
+
+/// A file that ends inside a record: the records before it, and a line for it, wherever it is cut.
+#[test]
+fn a_cut_record_is_said() {
+    let file = faults::small();
+    let one = file.len() / 4;
+    for end in 0..file.len() {
+        let cut = if end % one == 0 { "" } else { "cut record\n" };
+        assert_eq!(answered(&file[..end]), SMALL[..end / one].concat() + cut);
+    }
+}
+
+#[test]
+fn records_that_are_not_answered() {
+    let zeros = " 0".repeat(999);
+    let room = [SMALL[0].to_string(), format!("value skip steps 3 loops 0 | 1900{zeros}\n"), SMALL[2].to_string(), "refused 40\n".to_string()];
+    let lines: String = (0..4).map(|q| format!("{}too many entries 1001\n{}", room[q], SMALL[q])).collect();
+    assert_eq!(answered(&faults::entries_at_limit()), lines);
+    let unknown = "unknown question 0\nunknown question 67\nunknown question 10\ntoo many entries 1001\nrefused 1\n";
+    assert_eq!(answered(&faults::unknown_questions()), unknown);
+    let whole = format!("{lines}too many entries 65535\n{unknown}{}cut record\n", SMALL[..3].concat());
+    assert_eq!(answered(&faults::faults()), whole);
 }
 
 #[test]

@@ -1,6 +1,7 @@
 // What `trace` prints for an input: the run, a line a moment, or the line of a refusal.
 //
-// What it prints is proved in the crates below: here is only the writing, in large pieces. A write that fails ends it.
+// What it prints is proved in the crates below: here is only the writing, in large pieces. A write that fails ends it, and it answers whether all was
+// written.
 ghost use mathlib.Core.Path.{_≡_};
 ghost use mathlib.Core.Bool.{false};
 ghost use mathlib.Core.List.{List};
@@ -30,7 +31,7 @@ fn print_pages(
     fuel: u64,
     lengths: &[u32],
     buf: &mut [u8],
-)
+) -> bool
     requires { ⌜ (fuel < 4294967296) × (first .machine .steps ≤ fuel) × Measured (now b) (now lengths) × (length (now s) ≤ 64) × (10000 ≤ length (now buf)) × (first .at ≤ length (now buf)) × SizesOf (now b) z ⌝ }
     requires { ⌜ (first .ended ≡ false → (s₀ : Store) × (ls : List (List ℕ)) × LinesAt (now b) s₀ ls (pendingOf (now tags) (now nodes) (now integers) (first .height)) (first .machine) (now s)) ⌝ }
 {
@@ -38,10 +39,10 @@ fn print_pages(
     loop {
         let n = page.at;
         if !io::write_all(STDOUT_FILENO, &buf[..n]) {
-            return;
+            return false;
         }
         if page.ended {
-            return;
+            return true;
         }
         let m = page.machine;
         let h = page.height;
@@ -50,7 +51,7 @@ fn print_pages(
 }
 
 // Prints the run of an input that is accepted.
-fn print_run(input: &[u8], z: Sizes, buf: &mut [u8])
+fn print_run(input: &[u8], z: Sizes, buf: &mut [u8]) -> bool
     requires { ⌜ Accepted (now input) × SizesOf (routine (now input)) z × (20000 ≤ length (now buf)) ⌝ }
 {
     let end = trace_input::routine_end(input);
@@ -87,17 +88,17 @@ fn print_run(input: &[u8], z: Sizes, buf: &mut [u8])
         fuel,
         &lengths,
         buf,
-    );
+    )
 }
 
 // Prints what `trace` prints for an input, with the buffer for its lines.
-pub fn print(input: &[u8], buf: &mut [u8])
+pub fn print(input: &[u8], buf: &mut [u8]) -> bool
     requires { ⌜ 20000 ≤ length (now buf) ⌝ }
 {
     match trace_input::take_in(input) {
         Intake::Refused(r) => {
             let end = trace_input::put_refusal(r, buf, 0);
-            io::write_all(STDOUT_FILENO, &buf[..end]);
+            io::write_all(STDOUT_FILENO, &buf[..end])
         }
         Intake::Good(z) => print_run(input, z, buf),
     }

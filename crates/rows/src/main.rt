@@ -1,0 +1,72 @@
+// `rows`: answers each record of a rows file on standard input. docs/ROWS.md has the form of a record and every line that it is answered with.
+//
+// Here is only the reading of records and the printing of lines: each question is answered by its crate. Whatever can't be written, and a read that
+// fails, ends the program.
+ghost use Prim.Native.Nat.{_+_, _≤_};
+ghost use lib.ListN.{length};
+use record::Head;
+
+mod checks;
+mod line;
+mod record;
+mod runs;
+mod texts;
+
+// Answers the question of a record that was read: the room begins with what `trace` would read, the row first.
+fn answer(h: Head, input: &[u8], store: &mut [i32], buf: &mut [u8]) -> bool
+    requires { ⌜ (h .bytes ≤ length (now input)) × (20000 ≤ length (now buf)) ⌝ }
+{
+    let bytes = h.bytes;
+    let fuel = h.fuel;
+    let question = h.question;
+    match question {
+        b'c' => checks::answer(&input[..bytes]),
+        b'r' => runs::answer(&input[..bytes], store, fuel),
+        b'x' => texts::answer(&input[..bytes], store, fuel, buf),
+        b't' => trace_output::print(input, buf),
+        _ => line::print_fault(b"unknown question", question as u64),
+    }
+}
+
+// Reads one record and answers it; false where there is none, and where the program ends.
+fn one_record(room: &mut [u8], store: &mut [i32], buf: &mut [u8]) -> bool
+    requires { ⌜ (70000 ≤ length (now room)) × (1000 ≤ length (now store)) × (20000 ≤ length (now buf)) ⌝ }
+{
+    let mut head = [0u8; 9];
+    if !record::take_head(&mut head) {
+        return false;
+    }
+    let h = record::head_of(&head);
+    let bytes = h.bytes;
+    let entries = h.entries;
+    if record::MOST_ENTRIES < entries {
+        return record::pass_over(room, 4 * entries + bytes)
+            && line::print_fault(b"too many entries", entries as u64);
+    }
+    let values = bytes + 4;
+    let end = values + 4 * entries;
+    record::put_fuel(&head, room, bytes);
+    if !record::take(&mut room[values..end]) {
+        return false;
+    }
+    if !record::take(&mut room[..bytes]) {
+        return false;
+    }
+    let s = &mut store[..entries];
+    routine::values_at(room, values, s);
+    answer(h, &room[..end], s, buf)
+}
+
+fn main() {
+    let mut room = [0u8; 70000];
+    let mut store = [0i32; 1000];
+    let mut buf = io::large_buffer();
+    // no input has as many records as this
+    let mut left: u64 = 18446744073709551615;
+    while 0 < left {
+        if !one_record(&mut room, &mut store, &mut buf) {
+            return;
+        }
+        left -= 1;
+    }
+}
