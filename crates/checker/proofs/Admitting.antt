@@ -7,8 +7,9 @@ use mathlib.Core.List.{List, []}
 use borrow.Author.Tests.{leb-true, leb-false, eqb-true, eqb-false}
 use Rattle.l1.specs.Refused.{Refused}
 use Rattle.stored.specs.Stages.{no-with, given, Passes, First}
-use Rattle.stored.specs.Refusals.{locations, env, admission, lent-store}
+use Rattle.stored.specs.Refusals.{locations, env, admission, lent-store, lent-input}
 use Rattle.stored.proofs.Stages.{when-silent, silent-when, passes-nothing, passes-more, first-here}
+use Rattle.stored.proofs.Opens.{not-unequal}
 use Rattle.stored.proofs.Admission as stages
 use Rattle.routine.specs.Open.{rootOf, IsOpen, Runnable}
 use Rattle.routine.specs.Says.{refusalOf}
@@ -56,3 +57,8 @@ store-covers {b} {entries} x =
     let lent = stages.admitted-lent {b = b} {lent = lent-store b entries} (x .passes) in
     let short : ¬ (entries < locations b) = silent-when (lent .all-silent .0) in
     omega arith
+
+pub input-whole : {b : List ℕ} {after : ℕ} {a : Row} → Admits b (Input after) a → after ≡ 4 + 4 * locations b
+input-whole {b} {after} x =
+    let lent = stages.admitted-lent {b = b} {lent = lent-input b after} (x .passes) in
+    not-unequal after (4 + 4 * locations b) (silent-when (lent .all-silent .0))

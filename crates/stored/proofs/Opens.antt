@@ -15,7 +15,7 @@ use Rattle.stored.specs.Headed.{Headed}
 use Rattle.stored.proofs.Stages.{silent-when}
 use Rattle.stored.proofs.Subtrees.{size-fits}
 
-not-unequal : (x y : ℕ) → ¬ ¬ (x ≡ y) → x ≡ y
+pub not-unequal : (x y : ℕ) → ¬ ¬ (x ≡ y) → x ≡ y
 not-unequal x y = Dec·not-not (ℕ-discrete x y) .0
 
 pub headed : (b : List ℕ) → Opens b → Headed b

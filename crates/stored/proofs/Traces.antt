@@ -9,6 +9,7 @@ use Rattle.l1.specs.Store.{Store}
 use Rattle.l1.specs.Run.{Run, stay, more, Answer, answer}
 use Rattle.l1.specs.Text.{bytes}
 use Rattle.l1.proofs.Determinism.{determinism}
+use Rattle.stored.specs.Stages.{Refusal, First}
 use Rattle.stored.specs.Refusals.{routine, after-routine, lent-input, tracing}
 use Rattle.stored.specs.Trace.{storeIn, moment, moments, lastLine, refusedLine, Prints, prints-refusal, prints-run}
 use Rattle.stored.proofs.Reader.{holds-unique}
@@ -26,6 +27,10 @@ same-moments k t q p (more d ds) (more d′ ds′) =
     let (rule, to, left) = determinism (rw (q, p) at d) d′ in
     ap₂ _∷_ (rw (rule, to, left) refl) (same-moments (suc k) (omega arith) to left ds ds′)
 
+pub trace-refusal-unique : (input : List ℕ) {r r′ : Refusal} → First (tracing input) r → First (tracing input) r′ → r ≡ r′
+trace-refusal-unique input =
+    first-unique (tracing input) (admission-single (routine input) (lent-input (routine input) (length (after-routine input))) (when-single, tt))
+
 abbrev steps-of : Answer → ℕ
 steps-of (answer o T K e s) = T
 
@@ -33,9 +38,7 @@ abbrev last-of : Answer → List ℕ
 last-of (answer o T K e s) = lastLine o T K
 
 pub prints-unique : {input : List ℕ} {ls ls′ : List (List ℕ)} → Prints input ls → Prints input ls′ → ls ≡ ls′
-prints-unique {input} (prints-refusal f) (prints-refusal f′) =
-    let one = admission-single (routine input) (lent-input (routine input) (length (after-routine input))) (when-single, tt) in
-    ap (λ r. refusedLine r ∷ []) (first-unique (tracing input) one f f′)
+prints-unique {input} (prints-refusal f) (prints-refusal f′) = ap (λ r. refusedLine r ∷ []) (trace-refusal-unique input f f′)
 prints-unique (prints-refusal f) (prints-run none h y ds) = absurd (passes-none none f)
 prints-unique (prints-run none h y ds) (prints-refusal f) = absurd (passes-none none f)
 prints-unique {input} (prints-run none h y ds) (prints-run none′ h′ y′ ds′) =

@@ -4,12 +4,12 @@ ghost use Prim.Native.Nat.{_≤_};
 ghost use lib.ListN.{length, take};
 ghost use Rattle.stored.specs.Refusals.{locations, count};
 ghost use Rattle.stored.specs.Answers.{Writes};
-ghost use Rattle.routine.specs.Open.{SizesOf, IsOpen, Runnable};
+ghost use Rattle.routine.specs.Open.{SizesOf, Runnable};
 ghost use Rattle.stepper.specs.Lent.{framesOf};
 ghost use Rattle.text_after.specs.Says.{wroteOf};
 ghost use Rattle.text_after.specs.Shows.{Shows};
-use checker::Typed;
-use opener::Opened;
+use checker::admission::Admission;
+use checker::admission::Lent;
 use routine::Refusal;
 use routine::Sizes;
 
@@ -94,28 +94,15 @@ fn text_typed(b: &[u8], z: Sizes, s: &[i32], k: u32, buf: &mut [u8]) -> Wrote
     )
 }
 
-// Refusals 20 to 23 and 30 of a routine that was opened.
-fn text_open(b: &[u8], z: Sizes, s: &[i32], k: u32, buf: &mut [u8]) -> Wrote
-    requires { ⌜ IsOpen (now b) z ⌝ }
-    ensures { λ r. ⌜ Writes (now (b .entry)) (now (s .entry)) k (now (buf .entry)) (wroteOf r) (now (buf .exit)) ⌝ }
-{
-    match checker::types(b, z) {
-        Typed::Fault(c, i) => Wrote::Refused(checker::refusal_of(c, i)),
-        Typed::All(_) => {
-            if s.len() < routine::usize_of_u8(z.locations) {
-                return Wrote::Refused(Refusal::Store);
-            }
-            text_typed(b, z, s, k, buf)
-        }
-    }
-}
-
 // The text after k steps. A refusal changes no byte of the buffer.
 pub fn text(b: &[u8], s: &[i32], k: u32, buf: &mut [u8]) -> Wrote
     ensures { λ r. ⌜ Writes (now (b .entry)) (now (s .entry)) k (now (buf .entry)) (wroteOf r) (now (buf .exit)) ⌝ }
 {
-    match opener::open(b) {
-        Opened::Refused(r) => Wrote::Refused(r),
-        Opened::Routine(z) => text_open(b, z, s, k, buf),
+    match checker::admission::admit(b, Lent::Store(s.len())) {
+        Admission::Refused(r) => Wrote::Refused(r),
+        Admission::Admitted(row) => {
+            let z = row.sizes;
+            text_typed(b, z, s, k, buf)
+        }
     }
 }

@@ -1,5 +1,3 @@
 -- The laws of the intake.
 pub mod InputParts  -- where the routine, the fuel and the values stand in the input
-pub mod Refusing  -- which refusal `trace` gives
-pub mod RefusedLines  -- the line of a refusal in pieces
 pub mod OneAnswer  -- the contract of the intake leaves one answer

@@ -6,8 +6,8 @@ use Rattle.l1.specs.Store.{Store}
 use Rattle.l1.specs.Run.{stay, answer, Yields}
 use Rattle.l1.specs.Text.{bytes}
 use Rattle.l1.proofs.Outcomes.{answer-counts-steps}
-use Rattle.stored.specs.Refusals.{count, routine, Holds, GivenTrace}
-use Rattle.stored.specs.Answers.{Nothing}
+use Rattle.stored.specs.Stages.{Passes}
+use Rattle.stored.specs.Refusals.{count, routine, Holds, tracing}
 use Rattle.stored.specs.Trace.{fuelIn, storeIn, moment, moments, lastLine, Prints, prints-run}
 use Rattle.routine.specs.Open.{rootOf}
 use Rattle.machine.specs.Acts.{Loaded}
@@ -23,7 +23,7 @@ pub first-line : {b : List ℕ} {s : Store} {p : Pending} {m : Machine} {root : 
     → LinesAt b s (moment (m .steps) (nameOf (m .rule)) (meaning b p m) s ∷ []) p m s
 first-line {b} {s} {p} {m} i r h (l, t, k, q) = record { moment = i; lines = rw (first-meaning b p m r h l, t, q) (lines-to stay) }
 
-pub all-prints : {input : List ℕ} {ls : List (List ℕ)} → Nothing (GivenTrace input) → Holds (routine input) (rootOf (routine input))
+pub all-prints : {input : List ℕ} {ls : List (List ℕ)} → Passes (tracing input) → Holds (routine input) (rootOf (routine input))
     → AllLines (routine input) (storeIn input) (fuelIn input) ls → Prints input ls
 all-prints {input} none h (all-lines {o} {T} {K} {e} {s} (lines-to {K = K′} ds) y) =
     let (q, p, k) = same-end refl refl refl ds (answer-counts-steps y .0) in

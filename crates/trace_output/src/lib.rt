@@ -13,10 +13,10 @@ ghost use Rattle.routine.specs.Open.{SizesOf};
 ghost use Rattle.stepper.specs.Lent.{pendingOf};
 ghost use Rattle.moment_text.specs.Stand.{Measured};
 ghost use Rattle.trace_lines.specs.Lines.{LinesAt};
-ghost use Rattle.trace_input.specs.Says.{Accepted};
+ghost use Rattle.trace_input.specs.Says.{Admitted};
 use libc::STDOUT_FILENO;
 use routine::Sizes;
-use trace_input::Intake;
+use trace_input::Taken;
 use trace_lines::Page;
 
 // Writes page after page, the first of them in the buffer already, until the last line is out.
@@ -52,7 +52,7 @@ fn print_pages(
 
 // Prints the run of an input that is accepted.
 fn print_run(input: &[u8], z: Sizes, buf: &mut [u8]) -> bool
-    requires { ⌜ Accepted (now input) × SizesOf (routine (now input)) z × (20000 ≤ length (now buf)) ⌝ }
+    requires { ⌜ Admitted (now input) × SizesOf (routine (now input)) z × (20000 ≤ length (now buf)) ⌝ }
 {
     let end = trace_input::routine_end(input);
     let b = &input[..end];
@@ -96,10 +96,10 @@ pub fn print(input: &[u8], buf: &mut [u8]) -> bool
     requires { ⌜ 20000 ≤ length (now buf) ⌝ }
 {
     match trace_input::take_in(input) {
-        Intake::Refused(r) => {
-            let end = trace_input::put_refusal(r, buf, 0);
+        Taken::Refused(r) => {
+            let end = trace_lines::refused::put_refusal(r, buf, 0);
             io::write_all(STDOUT_FILENO, &buf[..end])
         }
-        Intake::Good(z) => print_run(input, z, buf),
+        Taken::Good(z) => print_run(input, z, buf),
     }
 }

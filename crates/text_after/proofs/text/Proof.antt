@@ -1,8 +1,7 @@
--- `text_after::text` meets its contract: a refusal of opening is the text's, and what was opened is run and written.
+-- `text_after::text` meets its contract: what the admission refuses is refused, and of what it admits the text is written.
 use borrow.Author.Needs.{needs}
-use Rattle.stored.specs.Answers.{text-refuses}
-use Rattle.stored.proofs.LowestGiven.{routine-lowest, run-lowest}
-use Rattle.routine.proofs.Opening.{opening-refuses, opening-opens}
+use Rattle.checker.proofs.Admitting.{may-run, store-covers}
+use Rattle.text_after.proofs.Showing.{run-refused}
 use Rattle.text_after.proofs.text.Statement.{statement}
 use Rattle.text_after.proofs.text.Tie as tie
 
@@ -13,8 +12,8 @@ text-spec =
     (λ c κs. search needs)
     (λ c. search needs)
     (λ c. search needs)
-    (λ c κs. opening-opens (rw (c .before .before .z .given .1) at (c .before .before .before .before .open .ensures)))
-    (λ c. let o = opening-refuses (rw (c .before .r .given .1) at (c .before .before .before .open .ensures)) in
-    text-refuses (run-lowest (routine-lowest o)))
+    (λ c κs. let w = c .before .before .before in let x = rw (w .row .given .1) at (w .before .before .admit .ensures) in
+    (may-run x, x .is-open .sizes, store-covers x))
+    (λ c. run-refused _ (rw (c .before .r .given .1) at (c .before .before .before .admit .ensures)))
     (λ c. search needs)
     (λ c. search needs))

@@ -1,12 +1,12 @@
--- `trace_input::put_refusal` meets its contract: the pieces of the line, in order. Of the 64 bytes of room each takes its own.
+-- `trace_lines::refused::put_refusal` meets its contract: the pieces of the line, in order. Of the 64 bytes of room each takes its own.
 use native.Mathlib.Omega.{arith}
 use borrow.Author.Needs.{needs}
 use Rattle.routine.specs.Says.{refusalOf}
 use Rattle.node_text.proofs.PutLaws.{put-more, room-left}
 use Rattle.node_text.proofs.NumberLengths.{few-digits}
-use Rattle.trace_input.proofs.RefusedLines.{line-with, line-without}
-use Rattle.trace_input.proofs.put_refusal.Statement.{statement}
-use Rattle.trace_input.proofs.put_refusal.Tie as tie
+use Rattle.trace_lines.proofs.RefusedLines.{line-with, line-without}
+use Rattle.trace_lines.proofs.refused.put_refusal.Statement.{statement}
+use Rattle.trace_lines.proofs.refused.put_refusal.Tie as tie
 
 room-for-number : tie.Need-put-decimal-requires
 room-for-number c κs =

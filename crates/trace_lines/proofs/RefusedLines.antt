@@ -8,7 +8,7 @@ use Rattle.l1.specs.Text.{bytes, decimal}
 use Rattle.stored.specs.Stages.{Refusal, no, no-with, number}
 use Rattle.stored.specs.Trace.{newline, refusedLine}
 use Rattle.routine.specs.Says.{returned}
-use Rattle.trace_input.specs.Says.{hasMore}
+use Rattle.trace_lines.specs.Refused.{hasMore}
 
 pub line-with : (q : Refusal) {t : Bool} {n i : ℕ} → t ≡ hasMore q → t ≡ true → n ≡ number q → i ≡ returned q
     → refusedLine q ≡ bytes "refused " ++ decimal n ++ bytes " at " ++ decimal i ++ newline
