@@ -1,8 +1,7 @@
 // `rows`: answers each record of a rows file on standard input. docs/ROWS.md has the form of a record and every line that it is answered with.
 //
-// Here is only the reading of records and the printing of lines: each question is answered by its crate. Whatever can't be written, and a read that
-// fails, ends the program.
-ghost use Prim.Native.Nat.{_+_, _≤_};
+// Here is only the reading of records and the printing of lines: each question is answered by its crate. A write or a read that fails ends the program.
+ghost use Prim.Native.Nat.{_≤_};
 ghost use lib.ListN.{length};
 use record::Head;
 
@@ -12,7 +11,7 @@ mod record;
 mod runs;
 mod texts;
 
-// Answers the question of a record that was read: the room begins with what `trace` would read, the row first.
+// Answers a record's question. The input is what `trace` would read: the row, the fuel and the values.
 fn answer(h: Head, input: &[u8], store: &mut [i32], buf: &mut [u8]) -> bool
     requires { ⌜ (h .bytes ≤ length (now input)) × (20000 ≤ length (now buf)) ⌝ }
 {
@@ -28,7 +27,7 @@ fn answer(h: Head, input: &[u8], store: &mut [i32], buf: &mut [u8]) -> bool
     }
 }
 
-// Reads one record and answers it; false where there is none, and where the program ends.
+// Reads one record and answers it; false where the program ends.
 fn one_record(room: &mut [u8], store: &mut [i32], buf: &mut [u8]) -> bool
     requires { ⌜ (70000 ≤ length (now room)) × (1000 ≤ length (now store)) × (20000 ≤ length (now buf)) ⌝ }
 {

@@ -4,7 +4,7 @@ ghost use lib.ListN.{length};
 use input::Got;
 use libc::STDERR_FILENO;
 
-// The store's entries that there is room for.
+// So many entries have room in the store.
 pub const MOST_ENTRIES: usize = 1000;
 
 // What stands before a record's entries.
@@ -48,7 +48,7 @@ fn is_whole(got: Got, n: usize) -> bool {
     true
 }
 
-// Reads a part of a record that is as long as the room.
+// Reads a part of a record.
 pub fn take(part: &mut [u8]) -> bool {
     let got = input::fill(part);
     is_whole(got, part.len())
