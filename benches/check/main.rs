@@ -1,31 +1,37 @@
 //! How fast the proved check is beside a plain safe one in Rust, in one process: the same rows, the same answers, rows a second of each.
 
+#[path = "../answer.rs"]
+mod answer;
 mod plain;
 #[path = "../random.rs"]
 mod random;
 mod rows;
 
+use answer::Answer;
 use plain::{Checker, Refusal, Told, Ty};
 use random::Random;
 use std::hint::black_box;
 use std::time::Instant;
 
+/// The words of out before a call.
+const UNTOUCHED: [u64; 4] = [u64::MAX; 4];
+
 extern "C" {
     // A lent slice passes as a pointer and a length, a lent array as a pointer.
-    fn rigvanesh_check(bytes: *const u8, length: usize, out: *mut [u64; 4]) -> u64;
+    fn rigvanesh_check(bytes: *const u8, length: usize, out: *mut [u64; 4]) -> Answer;
 }
 
-/// The code (0 accepted) and four words: type, W, read set, write set; of a refusal the node in the first.
-fn ours(bytes: &[u8], out: &mut [u64; 4]) -> u64 {
+/// The number of the refusal and its node; after 0 the four words are type, W, read set and write set.
+fn ours(bytes: &[u8], out: &mut [u64; 4]) -> Answer {
     unsafe { rigvanesh_check(bytes.as_ptr(), bytes.len(), out) }
 }
 
-/// The answer of the plain check in the same numbers.
-fn in_numbers(answer: Result<Told, Refusal>) -> (u64, [u64; 4]) {
+/// The answer of the plain check in the same numbers; a refusal leaves the words as they were.
+fn in_numbers(answer: Result<Told, Refusal>) -> (Answer, [u64; 4]) {
     match answer {
-        Ok(t) => (0, [t.ty as u64, t.working, t.reads, t.writes]),
-        Err(Refusal::Plain(c)) => (c as u64, [0; 4]),
-        Err(Refusal::At(c, i)) => (c as u64, [i as u64, 0, 0, 0]),
+        Ok(t) => (Answer { number: 0, also: 0 }, [t.ty as u64, t.working, t.reads, t.writes]),
+        Err(Refusal::Plain(c)) => (Answer { number: c as u64, also: 0 }, UNTOUCHED),
+        Err(Refusal::At(c, i)) => (Answer { number: c as u64, also: i as u64 }, UNTOUCHED),
     }
 }
 
@@ -34,10 +40,10 @@ fn compare(rows: &[Vec<u8>]) -> Vec<usize> {
     let mut checker = Checker::new();
     let mut codes = vec![0; 24];
     for row in rows {
-        let mut out = [0; 4];
-        let code = ours(row, &mut out);
-        assert_eq!((code, out), in_numbers(checker.check(row)), "{row:?}");
-        codes[code as usize] += 1;
+        let mut out = UNTOUCHED;
+        let answer = ours(row, &mut out);
+        assert_eq!((answer, out), in_numbers(checker.check(row)), "{row:?}");
+        codes[answer.number as usize] += 1;
     }
     codes
 }
@@ -58,7 +64,7 @@ fn bench(name: &str, rows: &[Vec<u8>], rounds: usize) {
     let mut out = [0u64; 4];
     let (mut best_ours, mut best_plain) = (f64::MAX, f64::MAX);
     for _ in 0..rounds {
-        best_ours = best_ours.min(time(rows, |row| ours(row, &mut out) + out[1]));
+        best_ours = best_ours.min(time(rows, |row| ours(row, &mut out).number + out[1]));
         best_plain = best_plain.min(time(rows, |row| match checker.check(row) {
             Ok(t) => t.working + (t.reads ^ t.writes) % 7 + (t.ty == Ty::Int) as u64,
             Err(_) => 1,

@@ -1,5 +1,7 @@
 //! How fast the proved run is beside a plain safe one in Rust, in one process: the same rows, the same answers, steps a second of each.
 
+#[path = "../answer.rs"]
+mod answer;
 mod plain;
 #[path = "../random.rs"]
 mod random;
@@ -7,6 +9,7 @@ mod rows;
 #[path = "../state.rs"]
 mod state;
 
+use answer::Answer;
 use plain::{Ended, Machine, Outcome, Value};
 use random::Random;
 use std::hint::black_box;
@@ -14,15 +17,15 @@ use std::time::Instant;
 
 extern "C" {
     // A lent slice passes as a pointer and a length, a lent array as a pointer.
-    fn rigvanesh_check(bytes: *const u8, length: usize, out: *mut [u64; 4]) -> u64;
-    fn rigvanesh_run(bytes: *const u8, length: usize, store: *mut i32, entries: usize, fuel: u32, out: *mut [u64; 4]) -> u64;
+    fn rigvanesh_check(bytes: *const u8, length: usize, out: *mut [u64; 4]) -> Answer;
+    fn rigvanesh_run(bytes: *const u8, length: usize, store: *mut i32, entries: usize, fuel: u32, out: *mut [u64; 4]) -> Answer;
 }
 
-/// The code (0 for a run) and four words: the kind of ending, its value or node, T and K.
+/// The number (0 for a run) and four words: the kind of ending, its value or node, T and K.
 fn ours(bytes: &[u8], store: &mut [i32], fuel: u32) -> (u64, [u64; 4]) {
     let mut out = [0; 4];
-    let code = unsafe { rigvanesh_run(bytes.as_ptr(), bytes.len(), store.as_mut_ptr(), store.len(), fuel, &mut out) };
-    (code, out)
+    let answer = unsafe { rigvanesh_run(bytes.as_ptr(), bytes.len(), store.as_mut_ptr(), store.len(), fuel, &mut out) };
+    (answer.number, out)
 }
 
 /// The answer of the plain run in the same numbers.
@@ -70,7 +73,7 @@ fn bench(name: &str, row: &[u8], fuel: u32, rounds: usize) {
         let mut out = [0u64; 4];
         best_check = best_check.min(time(&mut store, &start, |_| {
             let row = black_box(row);
-            unsafe { rigvanesh_check(row.as_ptr(), row.len(), &mut out) }
+            unsafe { rigvanesh_check(row.as_ptr(), row.len(), &mut out) }.number
         }));
     }
     println!(

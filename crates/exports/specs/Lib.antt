@@ -1,2 +1,2 @@
 -- What the exported functions promise.
-pub mod Says  -- the check's and the run's answers in numbers
+pub mod Says  -- the answers of the check, the run and the text in numbers

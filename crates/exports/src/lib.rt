@@ -1,14 +1,35 @@
-// The check and the run, for C and Rust to call.
+// The check and the run, for C and Rust to call; the text stands in exported_text. `rigvanesh.h` says in C's words what they are.
 ghost use mathlib.Core.Path.{_≡_};
 ghost use mir.Syntax.{w32};
 ghost use mir.Val.{ofZ};
 ghost use Rattle.l1.specs.Judge.{typeNo};
+ghost use Rattle.routine.specs.Says.{refusalOf};
 ghost use Rattle.checker.specs.Rules.{typeOf};
-ghost use Rattle.exports.specs.Says.{Says, SaysRun, endingNo, endingWord};
+ghost use Rattle.exports.specs.Says.{SaysCheck, SaysRun, answerOf, refuses, endingNo, endingWord};
 use checker::Checked;
 use checker::Ty;
 use machine::Ending;
+use routine::Refusal;
 use runner::Ran;
+
+// 01's number of a refusal and what it also returns; 0 and 0 where nothing is refused. It is returned, and not lent, so that a refusal changes
+// nothing of what is lent.
+#[repr(C)]
+pub struct Answer {
+    pub number: u64,
+    pub also: u64,
+}
+
+pub const ACCEPTED: Answer = Answer { number: 0, also: 0 };
+
+pub fn refused(r: Refusal) -> Answer
+    ensures { λ a. ⌜ a ≡ answerOf (refuses (refusalOf r)) ⌝ }
+{
+    Answer {
+        number: routine::number_of(r),
+        also: routine::returned_by(r),
+    }
+}
 
 fn type_of(t: Ty) -> u64
     ensures { λ r. ⌜ r ≡ typeNo (typeOf t) ⌝ }
@@ -20,24 +41,20 @@ fn type_of(t: Ty) -> u64
     }
 }
 
-// The words of out are the answer, beside the number returned: after 0 the type, W, the read set and the write set; after the number of a refusal
-// what it also returns, or 0.
+// The words of out: the type, W, the read set and the write set.
 #[no_mangle]
-pub extern "C" fn rigvanesh_check(b: &[u8], out: &mut [u64; 4]) -> u64
-    ensures { λ r. ⌜ Says (now (b .entry)) (now (out .entry)) r (now (out .exit)) ⌝ }
+pub extern "C" fn rigvanesh_check(b: &[u8], out: &mut [u64; 4]) -> Answer
+    ensures { λ r. ⌜ SaysCheck (now (b .entry)) (now (out .entry)) r (now (out .exit)) ⌝ }
 {
     match checker::check(b) {
-        Checked::Refused(r) => {
-            out[0] = routine::returned_by(r);
-            routine::number_of(r)
-        }
+        Checked::Refused(r) => refused(r),
         Checked::Accepted(t) => {
             let ty = t.ty;
             out[0] = type_of(ty);
             out[1] = t.working as u64;
             out[2] = t.reads;
             out[3] = t.writes;
-            0
+            ACCEPTED
         }
     }
 }
@@ -78,23 +95,20 @@ fn word_of(e: Ending) -> u64
     }
 }
 
-// After 0 the words of out are the kind of ending, its value or node, T and K; after the number of a refusal what it also returns, or 0.
+// The words of out: the kind of ending, its value or node, T and K.
 #[no_mangle]
-pub extern "C" fn rigvanesh_run(b: &[u8], s: &mut [i32], fuel: u32, out: &mut [u64; 4]) -> u64
+pub extern "C" fn rigvanesh_run(b: &[u8], s: &mut [i32], fuel: u32, out: &mut [u64; 4]) -> Answer
     ensures { λ r. ⌜ SaysRun (now (b .entry)) (now (s .entry)) fuel (now (out .entry)) r (now (out .exit)) (now (s .exit)) ⌝ }
 {
     match runner::run(b, s, fuel) {
-        Ran::Refused(r) => {
-            out[0] = routine::returned_by(r);
-            routine::number_of(r)
-        }
+        Ran::Refused(r) => refused(r),
         Ran::Ended(e) => {
             let ending = e.ending;
             out[0] = ending_of(ending);
             out[1] = word_of(ending);
             out[2] = e.steps;
             out[3] = e.loops;
-            0
+            ACCEPTED
         }
     }
 }

@@ -1,4 +1,4 @@
--- `exports::rigvanesh_run` meets its contract: each case of the run's answer, in numbers.
+-- `exports::rigvanesh_run` meets its contract: each case of the run's answer, as it is told.
 use borrow.Author.Needs.{needs}
 use mathlib.Core.Path.{refl}
 use Rattle.runner.specs.declared.Ran.the-variants.{Refused, Ended}
@@ -7,12 +7,12 @@ use Rattle.exports.proofs.rigvanesh_run.Tie as tie
 
 returns : tie.Need-returns
 returns c =
-    let w = c .before .before .before in
+    let w = c .before .before in
     record {
       answer = Refused (w .r .given .0 .0);
-      runs = rw (w .r .given .1) at (w .before .before .before .run .ensures);
-      its-code = c .number-of .ensures;
-      its-words = rw (c .before .returned-by .ensures) refl;
+      is-allowed = rw (w .r .given .1) at (w .before .before .before .run .ensures);
+      is-returned = c .refused .ensures;
+      is-left = refl;
     }
 
 returns-2 : tie.Need-returns-2
@@ -20,17 +20,15 @@ returns-2 c =
     let w = c .before .before .before in
     record {
       answer = Ended (w .e .given .0 .0);
-      runs = rw (w .e .given .1) at (w .before .before .before .run .ensures);
-      its-code = refl;
-      its-words = rw (c .before .ending-of .ensures, c .word-of .ensures) refl;
+      is-allowed = rw (w .e .given .1) at (w .before .before .before .run .ensures);
+      is-returned = refl;
+      is-left = rw (c .before .ending-of .ensures, c .word-of .ensures);
     }
 
 pub rigvanesh-run-spec : {M : Type 1} → statement M
 rigvanesh-run-spec =
     tie.close
     (tie.spec
-    (λ c κs. search needs)
-    (λ c. search needs)
     (λ c κs. search needs)
     (λ c. search needs)
     (λ c κs. search needs)

@@ -1,0 +1,189 @@
+/* Calls the exported functions over a rows file on standard input and prints the lines that the reference prints for it: of a record that asks for the
+ * check (c), the run (r) or the text (x); one that asks for the trace (t) is passed over. What is lent is filled before each call, and ` changed` ends the line
+ * of a call that changed what it may not: after a refusal anything at all, else a byte behind the text, or the store of a text.
+ *
+ * A record is 1 byte of question, 2 bytes R, 4 bytes of fuel (or k), 2 bytes E, E entries of 4 bytes and the R bytes of the row, all big-endian.
+ */
+#include "rigvanesh.h"
+#include <stdbool.h>
+#include <stdio.h>
+#include <stdlib.h>
+#include <string.h>
+
+enum { MOST = 65536, FILLED = 0x5A };
+
+struct record {
+    int question;
+    size_t bytes, entries;
+    uint32_t fuel;
+    uint8_t row[MOST];
+    int32_t store[MOST];
+};
+
+static struct record record;
+static int32_t store[MOST];
+static uint8_t buffer[MOST];
+static uint64_t out[4];
+
+/* The number in the next bytes of standard input, which has them. */
+static uint32_t number(int bytes)
+{
+    uint32_t n = 0;
+    while (bytes-- > 0) {
+        int byte = getchar();
+        if (byte == EOF) {
+            fputs("the rows file ends inside a record\n", stderr);
+            exit(1);
+        }
+        n = n << 8 | (uint32_t)byte;
+    }
+    return n;
+}
+
+/* Reads a record; false at the end of the input. */
+static bool next_record(void)
+{
+    record.question = getchar();
+    if (record.question == EOF)
+        return false;
+    record.bytes = number(2);
+    record.fuel = number(4);
+    record.entries = number(2);
+    for (size_t i = 0; i < record.entries; i++)
+        record.store[i] = (int32_t)number(4);
+    for (size_t i = 0; i < record.bytes; i++)
+        record.row[i] = (uint8_t)number(1);
+    return true;
+}
+
+static void fill(void)
+{
+    memcpy(store, record.store, record.entries * sizeof *store);
+    memset(buffer, FILLED, sizeof buffer);
+    memset(out, FILLED, sizeof out);
+}
+
+/* Whether all the bytes are as `fill` left them: the first is, and each is as the one before it. */
+static bool is_filled(const void *bytes, size_t count)
+{
+    const uint8_t *byte = bytes;
+    return count == 0 || (byte[0] == FILLED && memcmp(byte, byte + 1, count - 1) == 0);
+}
+
+static bool store_is_filled(void)
+{
+    return memcmp(store, record.store, record.entries * sizeof *store) == 0;
+}
+
+/* What is lent: null where that is nothing. */
+static void *lent(void *array, size_t length)
+{
+    return length == 0 ? NULL : array;
+}
+
+static const uint8_t *row(void)
+{
+    return lent(record.row, record.bytes);
+}
+
+static void print_refusal(struct rigvanesh_answer answer)
+{
+    printf("refused %llu", (unsigned long long)answer.number);
+    switch (answer.number) {
+    case RIGVANESH_LAYOUT:
+    case RIGVANESH_UNDECLARED:
+    case RIGVANESH_FIRST:
+    case RIGVANESH_SECOND:
+    case RIGVANESH_BRANCHES:
+        printf(" at %llu", (unsigned long long)answer.also);
+        break;
+    case RIGVANESH_BUFFER:
+        printf(" needs %llu", (unsigned long long)answer.also);
+        break;
+    default:
+        if (answer.also != 0)
+            printf(" also %llu", (unsigned long long)answer.also);
+    }
+    if (!is_filled(out, sizeof out) || !is_filled(buffer, sizeof buffer) || !store_is_filled())
+        fputs(" changed", stdout);
+}
+
+static void print_check(void)
+{
+    static const char *const types[] = {[RIGVANESH_INT] = "int", [RIGVANESH_BOOL] = "bool", [RIGVANESH_UNIT] = "unit"};
+    fill();
+    struct rigvanesh_answer answer = rigvanesh_check(row(), record.bytes, out);
+    if (answer.number != RIGVANESH_ACCEPTED)
+        print_refusal(answer);
+    else
+        printf("%s %llu %llu %llu", types[out[0]], (unsigned long long)out[1], (unsigned long long)out[2], (unsigned long long)out[3]);
+    putchar('\n');
+}
+
+static void print_ending(void)
+{
+    switch (out[0]) {
+    case RIGVANESH_VALUE_INT: printf("value %ld", (long)(int32_t)(uint32_t)out[1]); break;
+    case RIGVANESH_VALUE_BOOL: printf("value %s", out[1] ? "true" : "false"); break;
+    case RIGVANESH_VALUE_SKIP: fputs("value skip", stdout); break;
+    case RIGVANESH_OVERFLOW: printf("overflow at %llu", (unsigned long long)out[1]); break;
+    case RIGVANESH_FUEL: fputs("fuel", stdout); break;
+    }
+}
+
+static void print_run(void)
+{
+    fill();
+    struct rigvanesh_answer answer = rigvanesh_run(row(), record.bytes, lent(store, record.entries), record.entries, record.fuel, out);
+    if (answer.number != RIGVANESH_ACCEPTED) {
+        print_refusal(answer);
+    } else {
+        print_ending();
+        printf(" steps %llu loops %llu |", (unsigned long long)out[2], (unsigned long long)out[3]);
+        for (size_t i = 0; i < record.entries; i++)
+            printf(" %ld", (long)store[i]);
+    }
+    putchar('\n');
+}
+
+/* The line of the text in a buffer of so many bytes; its length, 0 after a refusal. */
+static size_t print_text(size_t room)
+{
+    fill();
+    struct rigvanesh_answer answer = rigvanesh_text(row(), record.bytes, lent(store, record.entries), record.entries, record.fuel,
+                                                    lent(buffer, room), room, out);
+    size_t length = 0;
+    if (answer.number != RIGVANESH_ACCEPTED) {
+        print_refusal(answer);
+    } else {
+        length = out[0];
+        printf("%llu %llu ", (unsigned long long)length, (unsigned long long)out[1]);
+        fwrite(buffer, 1, length, stdout);
+        if (!is_filled(buffer + length, sizeof buffer - length) || !is_filled(out + 2, 2 * sizeof *out) || !store_is_filled())
+            fputs(" changed", stdout);
+    }
+    putchar('\n');
+    return length;
+}
+
+/* In a large buffer, and where a text was written, in one that is a byte too short for it and in one that just holds it. */
+static void print_texts(void)
+{
+    size_t length = print_text(MOST);
+    if (length > 0) {
+        print_text(length - 1);
+        print_text(length);
+    }
+}
+
+int main(void)
+{
+    while (next_record()) {
+        switch (record.question) {
+        case 'c': print_check(); break;
+        case 'r': print_run(); break;
+        case 'x': print_texts(); break;
+        }
+    }
+    return 0;
+}
