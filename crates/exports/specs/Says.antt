@@ -12,8 +12,8 @@ use Rattle.stored.specs.Stages.{Refusal, number}
 use Rattle.stored.specs.Answers as S
 use Rattle.stored.specs.Answers.{Checks, Runs, Writes}
 use Rattle.routine.specs.Says.{returned, refusalOf}
-use Rattle.machine.specs.declared.Ending.{Ending}
-use Rattle.machine.specs.declared.Ending.the-variants.{Int, Bool, Skip, Overflow, Fuel}
+use Rattle.machine.specs.declared.state.Ending.{Ending}
+use Rattle.machine.specs.declared.state.Ending.the-variants.{Int, Bool, Skip, Overflow, Fuel}
 use Rattle.runner.specs.declared.Ran.{Ran}
 use Rattle.runner.specs.declared.Ran.the-variants.{Refused, Ended}
 use Rattle.runner.specs.Says.{ranOf}

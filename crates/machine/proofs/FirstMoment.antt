@@ -8,10 +8,10 @@ use Rattle.l1.specs.Store.{Store}
 use Rattle.l1.specs.Run.{stay}
 use Rattle.stored.specs.Refusals.{locations, count}
 use Rattle.routine.specs.Open.{rootOf, Runnable}
-use Rattle.machine.specs.State.{meaning, Moment, no-step}
+use Rattle.machine.specs.Moment.{meaning, Moment, no-step}
 use Rattle.machine.specs.Acts.{Loaded}
-use Rattle.machine.specs.declared.Pending.{Pending}
-use Rattle.machine.specs.declared.Machine.{Machine}
+use Rattle.machine.specs.declared.state.Pending.{Pending}
+use Rattle.machine.specs.declared.state.Machine.{Machine}
 
 pub first-meaning : (b : List ℕ) (p : Pending) (m : Machine) {root : ℕ} → root + 1 ≡ count b → p .height ≡ 0 → Loaded b root (m .work) → meaning b p m ≡ rootOf b
 first-meaning b p m {root} r h l = let q : count b - 1 ≡ root = omega arith in rw (h, q) (l .same)

@@ -21,15 +21,15 @@ use Rattle.routine.specs.Open.{Runnable}
 use Rattle.routine.proofs.Made.{made, before}
 use Rattle.routine.proofs.Standing.{is-headed, nodes-stand}
 use Rattle.machine.specs.Contexts.{fill, left-to-search}
-use Rattle.machine.specs.State.{exprOf, Busy, isDeref, Seen, searchOf, nodeOf, contextOf, Held, after, HeldBy, written, Within, ruleNo}
-use Rattle.machine.specs.Acts.{Went, searched, worked, Loaded, Gone, Sought, went-down, read-there}
-use Rattle.machine.specs.declared.Work.{Work}
-use Rattle.machine.specs.declared.Work.the-variants as w
-use Rattle.machine.specs.declared.Place.{Place}
-use Rattle.machine.specs.declared.Place.the-variants as p
-use Rattle.machine.specs.declared.Act.{Act}
-use Rattle.machine.specs.declared.Act.the-variants as a
-use Rattle.machine.specs.declared.Turn.{Turn}
+use Rattle.machine.specs.State.{exprOf, Busy, isDeref, Seen, searchOf, nodeOf, contextOf, Held}
+use Rattle.machine.specs.Acts.{after, HeldBy, written, Within, ruleNo, Went, searched, worked, Loaded, Gone, Sought, went-down, read-there}
+use Rattle.machine.specs.declared.state.Work.{Work}
+use Rattle.machine.specs.declared.state.Work.the-variants as w
+use Rattle.machine.specs.declared.state.Place.{Place}
+use Rattle.machine.specs.declared.state.Place.the-variants as p
+use Rattle.machine.specs.declared.state.Act.{Act}
+use Rattle.machine.specs.declared.state.Act.the-variants as a
+use Rattle.machine.specs.declared.state.Turn.{Turn}
 use Rattle.machine.proofs.Stacks.{asks, part-typed, fill-step}
 
 -- the act of a turn

@@ -11,10 +11,10 @@ use Rattle.l1.proofs.Range.{in-or-out, test-in, test-out}
 use Rattle.sums.specs.Sum.{sumOf}
 use Rattle.sums.specs.declared.Sum.the-variants.{In, Out}
 use Rattle.machine.specs.Acts.{worked, over, Summed}
-use Rattle.machine.specs.declared.Work.the-variants as w
-use Rattle.machine.specs.declared.Act.the-variants as a
-use Rattle.machine.specs.declared.Place.the-variants as p
-use Rattle.machine.specs.declared.Turn.{Turn}
+use Rattle.machine.specs.declared.state.Work.the-variants as w
+use Rattle.machine.specs.declared.state.Act.the-variants as a
+use Rattle.machine.specs.declared.state.Place.the-variants as p
+use Rattle.machine.specs.declared.state.Turn.{Turn}
 use Rattle.machine.proofs.NodeActs.{CameTo, came-to}
 
 module _ (l v : ℤ) where

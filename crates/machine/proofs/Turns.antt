@@ -25,19 +25,20 @@ use Rattle.routine.specs.declared.Sizes.{Sizes}
 use Rattle.routine.specs.Open.{SizesOf, rootOf, Runnable}
 use Rattle.routine.proofs.Standing.{root-depth, nodes-stand}
 use Rattle.machine.specs.Contexts.{Context, plug, left-to-search, all-left}
-use Rattle.machine.specs.State.{exprOf, Seen, searchOf, takesOf, contextOf, Held, redex, HeldUnder, searchAt, blank, stack, after, HeldBy, growsOf, isOver, overAt, written, Within, ruleNo, madeBy, turnedBy, lastRule, meaning, LastStep, last-step, Moment, outcomeOf, endOf}
-use Rattle.machine.specs.Acts.{Went, searched, worked, over, Stepped}
-use Rattle.machine.specs.declared.Work.{Work}
-use Rattle.machine.specs.declared.Work.the-variants as w
-use Rattle.machine.specs.declared.Place.{Place}
-use Rattle.machine.specs.declared.Place.the-variants as p
-use Rattle.machine.specs.declared.Act.{Act}
-use Rattle.machine.specs.declared.Act.the-variants as a
-use Rattle.machine.specs.declared.Frame.{Frame}
-use Rattle.machine.specs.declared.Pending.{Pending}
-use Rattle.machine.specs.declared.Machine.{Machine}
-use Rattle.machine.specs.declared.Next.{Next}
-use Rattle.machine.specs.declared.Ending.{Ending}
+use Rattle.machine.specs.State.{exprOf, Seen, searchOf, takesOf, contextOf, Held, redex, HeldUnder, searchAt, blank, stack, outcomeOf, endOf}
+use Rattle.machine.specs.Moment.{meaning, LastStep, last-step, Moment}
+use Rattle.machine.specs.Acts.{after, HeldBy, growsOf, isOver, overAt, written, Within, ruleNo, madeBy, turnedBy, lastRule, Went, searched, worked, over, Stepped}
+use Rattle.machine.specs.declared.state.Work.{Work}
+use Rattle.machine.specs.declared.state.Work.the-variants as w
+use Rattle.machine.specs.declared.state.Place.{Place}
+use Rattle.machine.specs.declared.state.Place.the-variants as p
+use Rattle.machine.specs.declared.state.Act.{Act}
+use Rattle.machine.specs.declared.state.Act.the-variants as a
+use Rattle.machine.specs.declared.state.Frame.{Frame}
+use Rattle.machine.specs.declared.state.Pending.{Pending}
+use Rattle.machine.specs.declared.state.Machine.{Machine}
+use Rattle.machine.specs.declared.state.Next.{Next}
+use Rattle.machine.specs.declared.state.Ending.{Ending}
 use Rattle.machine.proofs.Stacks.{plug-step, plug-overflow, plug-typed, stack-fits}
 use Rattle.machine.proofs.NodeActs.{few-nodes}
 
@@ -318,9 +319,10 @@ module _ {b : List ℕ} {s₀ s : Store} {p : Pending} {m : Machine} (i : Moment
         let z : limit - m .steps ≡ 0 = omega (arith, g .steps, one-at-most (g .went)) in
         run-then-end (i .run) low (rw (z, same at (t .parts)) (ends-fuel (plug-step (stack b (p .frames) at) d)))
 
-    module _ (n : isOver (r .act) ≡ false) {h : ℕ} (grows : h ≡ growsOf (r .act)) where
+    module _ (n : isOver (r .act) ≡ false) {h : ℕ} (grows : h ≡ growsOf (r .act))
+        {fs : List Frame} (stored : fs ≡ set (p .frames) at (record { place = r .top })) where
       abbrev p′ : Pending
-      p′ = record { frames = set (p .frames) at (record { place = r .top }); height = at + h }
+      p′ = record { frames = fs; height = at + h }
 
       room : at < length (p .frames)
       room = omega (arith, height-fits i, t .parts, i .frames)
@@ -334,7 +336,7 @@ module _ {b : List ℕ} {s₀ s : Store} {p : Pending} {m : Machine} (i : Moment
           let (run′, last′) = moved k run last (g .went) n in
           let (seen′, held′) = kept-of (g .went) n in
           let z = joined b (p .frames) at (r .top) room (r .act) (exprOf b (r .to .work)) n in
-          rw (q, grows)
+          rw (q, grows, stored)
           (record {
             runnable = i .runnable;
             covered = i .covered;
@@ -348,9 +350,9 @@ module _ {b : List ℕ} {s₀ s : Store} {p : Pending} {m : Machine} (i : Moment
       pub less-left : {limit : ℕ} → r .to .steps ≤ limit → left b limit p′ (r .to) < left b limit p m
       less-left l =
           let g = t .stepped in
-          let fits = rw grows at (search-fits (next-moment refl)) in
+          let fits = rw (grows, stored) at (search-fits (next-moment refl)) in
           let before = search-split b (p .frames) at (m .work) (p .height) (t .parts) in
-          rw grows (falls b (p .frames) at room (m .steps) before fits (g .went) (g .steps) l n)
+          rw (grows, stored) (falls b (p .frames) at room (m .steps) before fits (g .went) (g .steps) l n)
 
 pub grows-by-one : (d : Act) → growsOf d ≤ 1
 grows-by-one a.Push = omega arith

@@ -21,12 +21,12 @@ use Rattle.routine.specs.Open.{SizesOf, Runnable}
 use Rattle.machine.specs.Contexts.{Context, in-op1, in-op2, fill, left-to-search}
 use Rattle.machine.specs.State.{exprOf, Busy, Seen, takesOf, nodeOf, numberOf, truthOf, contextOf, Held, redex, HeldUnder, searchAt}
 use Rattle.machine.specs.Acts.{searched, worked, Gone, Sought, went-down, read-there, Summed}
-use Rattle.machine.specs.declared.Work.{Work}
-use Rattle.machine.specs.declared.Work.the-variants as w
-use Rattle.machine.specs.declared.Place.{Place}
-use Rattle.machine.specs.declared.Place.the-variants as p
-use Rattle.machine.specs.declared.Act.the-variants as a
-use Rattle.machine.specs.declared.Turn.{Turn}
+use Rattle.machine.specs.declared.state.Work.{Work}
+use Rattle.machine.specs.declared.state.Work.the-variants as w
+use Rattle.machine.specs.declared.state.Place.{Place}
+use Rattle.machine.specs.declared.state.Place.the-variants as p
+use Rattle.machine.specs.declared.state.Act.the-variants as a
+use Rattle.machine.specs.declared.state.Turn.{Turn}
 use Rattle.machine.proofs.Stacks.{asks, part-typed}
 use Rattle.machine.proofs.NodeActs.{Turned, to-node, reads-there, CameTo, came-to}
 

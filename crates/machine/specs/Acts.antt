@@ -1,25 +1,95 @@
--- What one act comes to: a move of the search, a step of the rules, or a sum out of range.
+-- What an act does to the places and the store, and what it comes to: a move of the search, a step of the rules, or a sum out of range.
 use Prim.Native.Nat.{ℕ, _+_, _*_, _<_, _≤_}
 use mathlib.Core.Path.{_≡_}
+use mathlib.Core.Bool.{Bool, true, false, cond}
 use mathlib.Core.List.{List}
+use lib.Dec.{eqb}
 use lib.IntN.{ℤ}
 use lib.ListN.{length}
 use Rattle.l1.specs.Syntax.{plus, Expr, int, _‹_#_›_, !_}
-use Rattle.l1.specs.Store.{Store, _∈dom_, lookup}
-use Rattle.l1.specs.Steps.{Rule, by-deref, ⟨_∣_⟩⟶⟨_∣_⟩_}
+use Rattle.l1.specs.Store.{Store, _∈dom_, lookup, update}
+use Rattle.l1.specs.Steps.{Rule, by-plus, by-geq, by-deref, by-assign, by-seq, by-if-true, by-if-false, by-while, ⟨_∣_⟩⟶⟨_∣_⟩_}
 use Rattle.l1.specs.Overflow.{_overflows-at_}
 use Rattle.l1.specs.Measures.{size}
 use Rattle.stored.specs.Reader.{treeAt}
 use Rattle.machine.specs.Contexts.{fill, left-to-search}
-use Rattle.machine.specs.State.{exprOf, Seen, searchOf, contextOf, Held, after, HeldBy, written, Within, ruleNo, madeBy, turnedBy, lastRule}
-use Rattle.machine.specs.declared.Work.{Work}
-use Rattle.machine.specs.declared.Work.the-variants as w
-use Rattle.machine.specs.declared.Place.{Place}
-use Rattle.machine.specs.declared.Act.{Act}
-use Rattle.machine.specs.declared.Act.the-variants as a
-use Rattle.machine.specs.declared.Machine.{Machine}
-use Rattle.machine.specs.declared.Next.{Next}
-use Rattle.machine.specs.declared.Turn.{Turn}
+use Rattle.machine.specs.State.{exprOf, Seen, searchOf, contextOf, Held}
+use Rattle.machine.specs.declared.state.Work.{Work}
+use Rattle.machine.specs.declared.state.Work.the-variants as w
+use Rattle.machine.specs.declared.state.Place.{Place}
+use Rattle.machine.specs.declared.state.Act.{Act}
+use Rattle.machine.specs.declared.state.Act.the-variants as a
+use Rattle.machine.specs.declared.state.Machine.{Machine}
+use Rattle.machine.specs.declared.state.Next.{Next}
+use Rattle.machine.specs.declared.state.Turn.{Turn}
+
+-- ---- what an act does
+
+-- after the act: a place more, or none
+abbrev pub after : List ℕ → Act → Place → Expr → Expr
+after b a.Push g e = fill (contextOf b g) e
+after b a.Rest g e = e
+after b (a.Write l n) g e = e
+after b (a.Over i) g e = e
+
+abbrev pub HeldBy : List ℕ → Act → Place → Type 0
+HeldBy b a.Push g = Held b g
+HeldBy b a.Rest g = Unit
+HeldBy b (a.Write l n) g = Unit
+HeldBy b (a.Over i) g = ⊥
+
+abbrev pub growsOf : Act → ℕ
+growsOf a.Push = 1
+growsOf a.Rest = 0
+growsOf (a.Write l n) = 0
+growsOf (a.Over i) = 0
+
+abbrev pub isOver : Act → Bool
+isOver a.Push = false
+isOver a.Rest = false
+isOver (a.Write l n) = false
+isOver (a.Over i) = true
+
+abbrev pub overAt : Act → ℕ
+overAt a.Push = 0
+overAt a.Rest = 0
+overAt (a.Write l n) = 0
+overAt (a.Over i) = i
+
+abbrev pub written : Store → Act → Store
+written s a.Push = s
+written s a.Rest = s
+written s (a.Write l n) = update s l n
+written s (a.Over i) = s
+
+abbrev pub Within : ℕ → Act → Type 0
+Within k a.Push = Unit
+Within k a.Rest = Unit
+Within k (a.Write l n) = l < k
+Within k (a.Over i) = Unit
+
+-- ---- the rules by numbers, from 1; 0 is a move of the search
+
+abbrev pub ruleNo : Rule → ℕ
+ruleNo by-plus = 1
+ruleNo by-geq = 2
+ruleNo by-deref = 3
+ruleNo by-assign = 4
+ruleNo by-seq = 5
+ruleNo by-if-true = 6
+ruleNo by-if-false = 7
+ruleNo by-while = 8
+
+abbrev pub madeBy : ℕ → ℕ
+madeBy ρ = cond (eqb ρ 0) 0 1
+
+abbrev pub turnedBy : ℕ → ℕ
+turnedBy ρ = cond (eqb ρ 8) 1 0
+
+abbrev pub lastRule : ℕ → ℕ → ℕ
+lastRule ρ before = cond (eqb ρ 0) before ρ
+
+-- ---- what it comes to
 
 -- an act at e and s, where c was left to search: the next work y, the act with the place that it may push, and the number of its rule
 pub data Went (b : List ℕ) (c : ℕ) (e : Expr) (s : Store) : Work → Act → Place → ℕ → Type 0 where

@@ -1,35 +1,26 @@
--- What the machine's values mean, and the moment of a run that its state stands for.
-use Prim.Native.Nat.{ℕ, zero, suc, _*_, _<_, _≤_}
-use mathlib.Core.Path.{_≡_}
+-- What the machine's values mean: the work, the pending places and the endings.
+use Prim.Native.Nat.{ℕ, zero, suc, _*_, _<_}
 use mathlib.Core.List.{List, [], _∷_}
-use mathlib.Core.Bool.{Bool, true, false, cond}
-use lib.Dec.{eqb}
+use mathlib.Core.Bool.{Bool, true, false}
 use lib.IntN.{ℤ, pos}
-use lib.ListN.{getD, length}
+use lib.ListN.{getD}
 use Rattle.l1.specs.Syntax.{plus, geq, Expr, int, bool, skip, _⨾_}
-use Rattle.l1.specs.Store.{Store, update}
-use Rattle.l1.specs.Steps.{Rule, by-plus, by-geq, by-deref, by-assign, by-seq, by-if-true, by-if-false, by-while, ⟨_∣_⟩⟶⟨_∣_⟩_}
-use Rattle.l1.specs.Run.{Run, Outcome, value, overflow, fuel}
+use Rattle.l1.specs.Run.{Outcome, value, overflow, fuel}
 use Rattle.l1.specs.Measures.{size}
 use Rattle.stored.specs.Layout.{kind, child2, child3}
 use Rattle.stored.specs.Reader.{treeAt}
-use Rattle.stored.specs.Refusals.{locations, count}
+use Rattle.stored.specs.Refusals.{count}
 use Rattle.routine.specs.declared.Form.{Form}
 use Rattle.routine.specs.declared.Form.the-variants.{Integer, Boolean, Plus, Geq, If, Assign, Deref, Skip, Seq, While, Unknown}
 use Rattle.routine.specs.Forms.{formOf}
-use Rattle.routine.specs.Open.{rootOf, Runnable}
-use Rattle.machine.specs.Contexts.{Context, in-op1, in-op2, in-if3, in-assign2, in-seq2, fill, plug, left-to-search}
-use Rattle.machine.specs.declared.Work.{Work}
-use Rattle.machine.specs.declared.Work.the-variants as w
-use Rattle.machine.specs.declared.Place.{Place}
-use Rattle.machine.specs.declared.Place.the-variants as p
-use Rattle.machine.specs.declared.Act.{Act}
-use Rattle.machine.specs.declared.Act.the-variants as a
-use Rattle.machine.specs.declared.Frame.{Frame}
-use Rattle.machine.specs.declared.Pending.{Pending}
-use Rattle.machine.specs.declared.Machine.{Machine}
-use Rattle.machine.specs.declared.Ending.{Ending}
-use Rattle.machine.specs.declared.Ending.the-variants as e
+use Rattle.machine.specs.Contexts.{Context, in-op1, in-op2, in-if3, in-assign2, in-seq2, fill, left-to-search}
+use Rattle.machine.specs.declared.state.Work.{Work}
+use Rattle.machine.specs.declared.state.Work.the-variants as w
+use Rattle.machine.specs.declared.state.Place.{Place}
+use Rattle.machine.specs.declared.state.Place.the-variants as p
+use Rattle.machine.specs.declared.state.Frame.{Frame}
+use Rattle.machine.specs.declared.state.Ending.{Ending}
+use Rattle.machine.specs.declared.state.Ending.the-variants as e
 
 -- ---- the work
 
@@ -155,95 +146,6 @@ blank = record { place = p.Blank }
 abbrev pub stack : List ℕ → List Frame → ℕ → List Context
 stack b fs zero = []
 stack b fs (suc h) = contextOf b (getD fs h blank .place) ∷ stack b fs h
-
--- ---- acts
-
--- after the act: a place more, or none
-abbrev pub after : List ℕ → Act → Place → Expr → Expr
-after b a.Push g e = fill (contextOf b g) e
-after b a.Rest g e = e
-after b (a.Write l n) g e = e
-after b (a.Over i) g e = e
-
-abbrev pub HeldBy : List ℕ → Act → Place → Type 0
-HeldBy b a.Push g = Held b g
-HeldBy b a.Rest g = Unit
-HeldBy b (a.Write l n) g = Unit
-HeldBy b (a.Over i) g = ⊥
-
-abbrev pub growsOf : Act → ℕ
-growsOf a.Push = 1
-growsOf a.Rest = 0
-growsOf (a.Write l n) = 0
-growsOf (a.Over i) = 0
-
-abbrev pub isOver : Act → Bool
-isOver a.Push = false
-isOver a.Rest = false
-isOver (a.Write l n) = false
-isOver (a.Over i) = true
-
-abbrev pub overAt : Act → ℕ
-overAt a.Push = 0
-overAt a.Rest = 0
-overAt (a.Write l n) = 0
-overAt (a.Over i) = i
-
-abbrev pub written : Store → Act → Store
-written s a.Push = s
-written s a.Rest = s
-written s (a.Write l n) = update s l n
-written s (a.Over i) = s
-
-abbrev pub Within : ℕ → Act → Type 0
-Within k a.Push = Unit
-Within k a.Rest = Unit
-Within k (a.Write l n) = l < k
-Within k (a.Over i) = Unit
-
--- ---- the rules by numbers, from 1; 0 is a move of the search
-
-abbrev pub ruleNo : Rule → ℕ
-ruleNo by-plus = 1
-ruleNo by-geq = 2
-ruleNo by-deref = 3
-ruleNo by-assign = 4
-ruleNo by-seq = 5
-ruleNo by-if-true = 6
-ruleNo by-if-false = 7
-ruleNo by-while = 8
-
-abbrev pub madeBy : ℕ → ℕ
-madeBy ρ = cond (eqb ρ 0) 0 1
-
-abbrev pub turnedBy : ℕ → ℕ
-turnedBy ρ = cond (eqb ρ 8) 1 0
-
-abbrev pub lastRule : ℕ → ℕ → ℕ
-lastRule ρ before = cond (eqb ρ 0) before ρ
-
--- ---- the moment
-
--- the expression that a state stands for
-abbrev pub meaning : List ℕ → Pending → Machine → Expr
-meaning b p m = plug (stack b (p .frames) (p .height)) (exprOf b (m .work))
-
--- the last step of a run to ⟨e, s⟩ in T steps is by the rule that has the number ρ
-pub data LastStep (e₀ : Expr) (s₀ : Store) (T : ℕ) (e : Expr) (s : Store) (ρ : ℕ) : Type 0 where
-  no-step : T ≡ 0 → LastStep e₀ s₀ T e s ρ
-  last-step : {T′ K′ : ℕ} {e′ : Expr} {s′ : Store} {r : Rule}
-      → T ≡ suc T′ → Run T′ K′ e₀ s₀ e′ s′ → ⟨ e′ ∣ s′ ⟩⟶⟨ e ∣ s ⟩ r → ρ ≡ ruleNo r
-      → LastStep e₀ s₀ T e s ρ
-
--- the state and the store s are where the run of the routine from s₀ stands after its steps
-pub record Moment (b : List ℕ) (s₀ s : Store) (p : Pending) (m : Machine) : Type 0 where
-  pub runnable : Runnable b
-  pub covered : locations b ≤ length s₀
-  pub run : Run (m .steps) (m .loops) (rootOf b) s₀ (meaning b p m) s
-  pub last : LastStep (rootOf b) s₀ (m .steps) (meaning b p m) s (m .rule)
-  pub seen : Seen b (m .work)
-  pub frames : length (p .frames) ≡ 256
-  pub held : (j : ℕ) → j < p .height → Held b (getD (p .frames) j blank .place)
 
 -- ---- endings
 

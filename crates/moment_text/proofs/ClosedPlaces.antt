@@ -4,7 +4,7 @@ use mathlib.Core.Path.{_≡_, refl, sym, ap, _∙_, subst}
 use mathlib.Core.List.{List, [], _++_, append-assoc, append-nil}
 use lib.ListN.{length, getD}
 use Rattle.machine.specs.State.{contextOf, blank, stack}
-use Rattle.machine.specs.declared.Frame.{Frame}
+use Rattle.machine.specs.declared.state.Frame.{Frame}
 use Rattle.node_text.specs.Put.{Put}
 use Rattle.node_text.proofs.PutLaws.{put-none, put-more, room-first, room-rest}
 use Rattle.moment_text.specs.Around.{closing, closes}

@@ -6,7 +6,7 @@ use lib.ListN.{length, length-append}
 use Rattle.l1.specs.Text.{bytes, text}
 use Rattle.stored.specs.Layout.{child2}
 use Rattle.machine.specs.State.{contextOf}
-use Rattle.machine.specs.declared.Place.the-variants.{Again}
+use Rattle.machine.specs.declared.state.Place.the-variants.{Again}
 use Rattle.node_text.specs.Texts.{textAt}
 use Rattle.moment_text.specs.Around.{closing}
 

@@ -5,9 +5,9 @@ use mathlib.Core.List.{List}
 use Rattle.l1.specs.Store.{Store}
 use Rattle.routine.specs.Open.{SizesOf, IsOpen, Runnable}
 use Rattle.routine.specs.declared.Sizes.{Sizes}
-use Rattle.machine.specs.State.{Moment}
-use Rattle.machine.specs.declared.Pending.{Pending}
-use Rattle.machine.specs.declared.Machine.{Machine}
+use Rattle.machine.specs.Moment.{Moment}
+use Rattle.machine.specs.declared.state.Pending.{Pending}
+use Rattle.machine.specs.declared.state.Machine.{Machine}
 use Rattle.machine.proofs.Turns.{height-fits}
 use Rattle.moment_text.specs.Stand.{Stands}
 

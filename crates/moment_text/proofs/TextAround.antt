@@ -9,9 +9,9 @@ use Rattle.l1.specs.Syntax.{Expr}
 use Rattle.l1.specs.Text.{text}
 use Rattle.machine.specs.Contexts.{Context, in-op1, in-op2, in-if3, in-assign2, in-seq2, fill, plug}
 use Rattle.machine.specs.State.{contextOf, blank, stack}
-use Rattle.machine.specs.declared.Frame.{Frame}
-use Rattle.machine.specs.declared.Place.{Place}
-use Rattle.machine.specs.declared.Place.the-variants.{Blank, PlusLeft, GeqLeft, PlusRight, GeqRight, Test, Again, Store, First}
+use Rattle.machine.specs.declared.state.Frame.{Frame}
+use Rattle.machine.specs.declared.state.Place.{Place}
+use Rattle.machine.specs.declared.state.Place.the-variants.{Blank, PlusLeft, GeqLeft, PlusRight, GeqRight, Test, Again, Store, First}
 use Rattle.moment_text.specs.Around.{opening, closing, opens, closes, openingOf, opensOf}
 
 text-fill : (f : Context) (e : Expr) → text (fill f e) ≡ opening f ++ text e ++ closing f

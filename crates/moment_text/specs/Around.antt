@@ -6,9 +6,9 @@ use Rattle.l1.specs.Syntax.{plus, geq}
 use Rattle.l1.specs.Text.{bytes, integer, sign, location, text}
 use Rattle.machine.specs.Contexts.{Context, in-op1, in-op2, in-if3, in-assign2, in-seq2}
 use Rattle.machine.specs.State.{blank}
-use Rattle.machine.specs.declared.Frame.{Frame}
-use Rattle.machine.specs.declared.Place.{Place}
-use Rattle.machine.specs.declared.Place.the-variants.{Blank, PlusLeft, GeqLeft, PlusRight, GeqRight, Test, Again, Store, First}
+use Rattle.machine.specs.declared.state.Frame.{Frame}
+use Rattle.machine.specs.declared.state.Place.{Place}
+use Rattle.machine.specs.declared.state.Place.the-variants.{Blank, PlusLeft, GeqLeft, PlusRight, GeqRight, Test, Again, Store, First}
 
 abbrev pub opening : Context → List ℕ
 opening (in-op1 i o e₂) = bytes "("

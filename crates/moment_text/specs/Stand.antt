@@ -9,8 +9,8 @@ use Rattle.routine.specs.Open.{IsOpen}
 use Rattle.routine.specs.declared.Sizes.{Sizes}
 use Rattle.machine.specs.Contexts.{plug}
 use Rattle.machine.specs.State.{exprOf, Seen, Held, blank, stack}
-use Rattle.machine.specs.declared.Frame.{Frame}
-use Rattle.machine.specs.declared.Work.{Work}
+use Rattle.machine.specs.declared.state.Frame.{Frame}
+use Rattle.machine.specs.declared.state.Work.{Work}
 use Rattle.node_text.specs.Lengths.{LengthsOf}
 
 pub record Stands (b : List ℕ) (z : Sizes) (fs : List Frame) (h : ℕ) (x : Work) : Type 0 where

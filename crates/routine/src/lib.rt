@@ -2,7 +2,7 @@
 ghost use mathlib.Core.Path.{_≡_};
 ghost use Prim.Native.Nat.{_+_, _*_, _≤_, _<_};
 ghost use lib.ListN.{length};
-ghost use Rattle.stored.specs.Bytes.{pair, signed};
+ghost use Rattle.stored.specs.Bytes.{pair, unsigned, signed};
 ghost use Rattle.stored.specs.Layout.{start, kind, arg, child1, child2, child3};
 ghost use Rattle.stored.specs.Stages.{number};
 ghost use Rattle.stored.specs.Trace.{four, valuesFrom};
@@ -183,6 +183,17 @@ pub fn signed_of(u: u32) -> i32
         u as i32
     } else {
         ((u as i64) - 4294967296) as i32
+    }
+}
+
+// And back.
+pub fn bits_of(n: i32) -> u32
+    ensures { λ r. ⌜ r ≡ unsigned n ⌝ }
+{
+    if n < 0 {
+        4294967295 - ((-1 - n) as u32)
+    } else {
+        n as u32
     }
 }
 

@@ -10,8 +10,8 @@ use Rattle.stored.proofs.OneAnswer.{runs-unique}
 use Rattle.routine.specs.Says.{refusalOf}
 use Rattle.routine.proofs.RefusalNames.{refusal-unique}
 use Rattle.machine.specs.State.{outcomeOf}
-use Rattle.machine.specs.declared.Ending.{Ending}
-use Rattle.machine.specs.declared.Ending.the-variants.{Int, Bool, Skip, Overflow, Fuel}
+use Rattle.machine.specs.declared.state.Ending.{Ending}
+use Rattle.machine.specs.declared.state.Ending.the-variants.{Int, Bool, Skip, Overflow, Fuel}
 use Rattle.runner.specs.Says.{ranOf}
 use Rattle.runner.specs.declared.Ran.{Ran}
 use Rattle.runner.specs.declared.Ran.the-variants.{Refused, Ended}

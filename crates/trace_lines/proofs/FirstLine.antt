@@ -11,9 +11,9 @@ use Rattle.stored.specs.Refusals.{count, routine, Holds, tracing}
 use Rattle.stored.specs.Trace.{fuelIn, storeIn, moment, moments, lastLine, Prints, prints-run}
 use Rattle.routine.specs.Open.{rootOf}
 use Rattle.machine.specs.Acts.{Loaded}
-use Rattle.machine.specs.State.{meaning, Moment}
-use Rattle.machine.specs.declared.Pending.{Pending}
-use Rattle.machine.specs.declared.Machine.{Machine}
+use Rattle.machine.specs.Moment.{meaning, Moment}
+use Rattle.machine.specs.declared.state.Pending.{Pending}
+use Rattle.machine.specs.declared.state.Machine.{Machine}
 use Rattle.machine.proofs.FirstMoment.{first-meaning}
 use Rattle.trace_lines.specs.Lines.{lines-to, AllLines, all-lines, LinesAt, nameOf}
 use Rattle.trace_lines.proofs.NextLine.{same-end}

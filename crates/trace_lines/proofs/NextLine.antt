@@ -16,9 +16,10 @@ use Rattle.l1.proofs.OneAct.{overflow-makes-no-step}
 use Rattle.l1.proofs.Outcomes.{answer-counts-steps}
 use Rattle.stored.specs.Trace.{moment, moments, lastLine}
 use Rattle.routine.specs.Open.{rootOf}
-use Rattle.machine.specs.State.{ruleNo, meaning, LastStep, no-step, last-step, Moment}
-use Rattle.machine.specs.declared.Pending.{Pending}
-use Rattle.machine.specs.declared.Machine.{Machine}
+use Rattle.machine.specs.Acts.{ruleNo}
+use Rattle.machine.specs.Moment.{meaning, LastStep, no-step, last-step, Moment}
+use Rattle.machine.specs.declared.state.Pending.{Pending}
+use Rattle.machine.specs.declared.state.Machine.{Machine}
 use Rattle.trace_lines.specs.Lines.{LinesTo, lines-to, AllLines, all-lines, LinesAt, nameOf}
 
 -- two runs of as many steps from one place come to one place, by as many turns of loops

@@ -6,8 +6,8 @@ use mathlib.Core.Bool.{Bool, true, false, cond}
 use mathlib.Core.List.{List, [], _∷_, _++_, append-assoc, append-nil}
 use Rattle.l1.proofs.Clash.{clash}
 use Rattle.l1.specs.Store.{Store}
-use Rattle.machine.specs.declared.Pending.{Pending}
-use Rattle.machine.specs.declared.Machine.{Machine}
+use Rattle.machine.specs.declared.state.Pending.{Pending}
+use Rattle.machine.specs.declared.state.Machine.{Machine}
 use Rattle.node_text.specs.Put.{Put}
 use Rattle.node_text.proofs.PutLaws.{put-none, put-more}
 use Rattle.trace_lines.specs.Lines.{AllLines, LinesAt, joined}

@@ -8,9 +8,9 @@ use Rattle.l1.specs.Run.{Run, Outcome, value, overflow, fuel, answer, Yields}
 use Rattle.l1.specs.Text.{bytes, decimal, text}
 use Rattle.stored.specs.Trace.{moment, moments, lastLine}
 use Rattle.routine.specs.Open.{rootOf}
-use Rattle.machine.specs.State.{meaning, Moment}
-use Rattle.machine.specs.declared.Pending.{Pending}
-use Rattle.machine.specs.declared.Machine.{Machine}
+use Rattle.machine.specs.Moment.{meaning, Moment}
+use Rattle.machine.specs.declared.state.Pending.{Pending}
+use Rattle.machine.specs.declared.state.Machine.{Machine}
 
 -- the line of every moment up to ⟨e, s⟩, which a run from s₀ comes to after T steps
 pub data LinesTo (b : List ℕ) (s₀ : Store) : List (List ℕ) → ℕ → Expr → Store → Type 0 where

@@ -4,7 +4,7 @@ use mathlib.Core.Path.{_≡_}
 use mathlib.Core.Bool.{true, false}
 use mathlib.Core.List.{List, _++_}
 use Rattle.l1.specs.Store.{Store}
-use Rattle.machine.specs.declared.Pending.{Pending}
+use Rattle.machine.specs.declared.state.Pending.{Pending}
 use Rattle.node_text.specs.Put.{Put}
 use Rattle.trace_lines.specs.Lines.{AllLines, LinesAt, joined}
 use Rattle.trace_lines.specs.declared.Page.{Page}

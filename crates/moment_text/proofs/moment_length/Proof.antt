@@ -13,8 +13,8 @@ use denote.Ref.{now}
 use borrow.Author.Needs.{needs}
 use Rattle.l1.specs.Text.{text}
 use Rattle.machine.specs.State.{exprOf, contextOf, Held, blank, stack}
-use Rattle.machine.specs.declared.Frame.{Frame}
-use Rattle.machine.specs.declared.Work.{Work}
+use Rattle.machine.specs.declared.state.Frame.{Frame}
+use Rattle.machine.specs.declared.state.Work.{Work}
 use Rattle.stepper.specs.Lent.{placeOf, framesOf}
 use Rattle.stepper.proofs.LentPlaces.{place-read, frames-fit}
 use Rattle.moment_text.specs.Around.{closing, closes, openingOf, opensOf}

@@ -12,7 +12,7 @@ use Rattle.l1.specs.Text.{text}
 use Rattle.stored.specs.Refusals.{count}
 use Rattle.routine.specs.Open.{IsOpen}
 use Rattle.machine.specs.State.{Held}
-use Rattle.machine.specs.declared.Place.{Place}
+use Rattle.machine.specs.declared.state.Place.{Place}
 use Rattle.node_text.specs.Texts.{textAt}
 use Rattle.moment_text.proofs.NodeLengths.{in-table, told}
 use Rattle.moment_text.proofs.place_length.Statement.{statement}

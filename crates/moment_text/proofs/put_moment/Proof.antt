@@ -6,8 +6,8 @@ use lib.ListN.{length}
 use borrow.Author.Needs.{needs}
 use Rattle.l1.specs.Text.{text}
 use Rattle.machine.specs.State.{exprOf, stack}
-use Rattle.machine.specs.declared.Frame.{Frame}
-use Rattle.machine.specs.declared.Work.{Work}
+use Rattle.machine.specs.declared.state.Frame.{Frame}
+use Rattle.machine.specs.declared.state.Work.{Work}
 use Rattle.stepper.specs.Lent.{framesOf}
 use Rattle.node_text.proofs.PutLaws.{put-more, room-first, room-rest}
 use Rattle.moment_text.specs.Around.{closes, opensOf}

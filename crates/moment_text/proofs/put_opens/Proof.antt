@@ -10,7 +10,7 @@ use mir.Syntax.{w32}
 use mir.ValLaws.{toZ-ofZ}
 use borrow.Author.Needs.{needs}
 use Rattle.machine.specs.State.{blank}
-use Rattle.machine.specs.declared.Frame.{Frame}
+use Rattle.machine.specs.declared.state.Frame.{Frame}
 use Rattle.stepper.specs.Lent.{framesOf}
 use Rattle.stepper.proofs.LentPlaces.{place-read, frames-fit}
 use Rattle.node_text.specs.Put.{Put}

@@ -4,7 +4,7 @@ use mathlib.Core.Path.{refl}
 use borrow.Author.Needs.{needs}
 use denote.Ref.{now}
 use Rattle.routine.proofs.Standing.{is-headed}
-use Rattle.machine.specs.State.{Moment}
+use Rattle.machine.specs.Moment.{Moment}
 use Rattle.machine.proofs.FirstMoment.{first-moment}
 use Rattle.stepper.specs.Lent.{pendingOf}
 use Rattle.moment_text.proofs.MomentStands.{is-open, moment-stands}

@@ -8,8 +8,8 @@ use borrow.Author.Needs.{needs}
 use Rattle.stored.specs.Refusals.{count}
 use Rattle.stored.specs.Trace.{moment}
 use Rattle.routine.proofs.Standing.{is-headed}
-use Rattle.machine.specs.State.{meaning, Moment}
-use Rattle.machine.specs.declared.Pending.{Pending}
+use Rattle.machine.specs.Moment.{meaning, Moment}
+use Rattle.machine.specs.declared.state.Pending.{Pending}
 use Rattle.machine.proofs.FirstMoment.{first-moment}
 use Rattle.stepper.specs.Lent.{pendingOf}
 use Rattle.node_text.proofs.PutLaws.{kept}

@@ -3,7 +3,7 @@ use Prim.Native.Nat.{_+_, _≤_}
 use native.Mathlib.Omega.{arith}
 use lib.ListN.{length}
 use borrow.Author.Needs.{needs}
-use Rattle.machine.specs.State.{meaning}
+use Rattle.machine.specs.Moment.{meaning}
 use Rattle.stepper.specs.Lent.{pendingOf}
 use Rattle.node_text.proofs.PutLaws.{put-more, kept}
 use Rattle.trace_lines.specs.Lines.{nameOf}

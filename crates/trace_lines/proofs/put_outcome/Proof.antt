@@ -10,8 +10,8 @@ use mir.Facts.{toZ-ofZ}
 use borrow.Author.Needs.{needs}
 use Rattle.l1.specs.Text.{decimal, text}
 use Rattle.machine.specs.State.{outcomeOf}
-use Rattle.machine.specs.declared.Ending.{Ending}
-use Rattle.machine.specs.declared.Ending.the-variants as e
+use Rattle.machine.specs.declared.state.Ending.{Ending}
+use Rattle.machine.specs.declared.state.Ending.the-variants as e
 use Rattle.node_text.specs.Put.{Put}
 use Rattle.node_text.proofs.PutLaws.{put-more, room-left}
 use Rattle.node_text.proofs.NumberLengths.{few-digits, few-bytes}
