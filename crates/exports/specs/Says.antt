@@ -4,10 +4,9 @@ use mathlib.Core.Path.{_≡_}
 use mathlib.Core.Bool.{cond}
 use mathlib.Core.List.{List, [], _∷_}
 use lib.Seq.{sets}
-use mir.Syntax.{w32}
-use mir.Val.{ofZ}
 use Rattle.l1.specs.Store.{Store}
 use Rattle.l1.specs.Judge.{typeNo}
+use Rattle.stored.specs.Bytes.{unsigned}
 use Rattle.stored.specs.Stages.{Refusal, number}
 use Rattle.stored.specs.Answers as S
 use Rattle.stored.specs.Answers.{Checks, Runs, Writes}
@@ -58,7 +57,7 @@ endingNo (Overflow i) = 3
 endingNo Fuel = 4
 
 abbrev pub endingWord : Ending → ℕ
-endingWord (Int n) = ofZ w32 n
+endingWord (Int n) = unsigned n
 endingWord (Bool t) = cond t 1 0
 endingWord Skip = 0
 endingWord (Overflow i) = i

@@ -1,7 +1,5 @@
 // The check and the run, for C and Rust to call; the text stands in exported_text. `rigvanesh.h` says in C's words what they are.
 ghost use mathlib.Core.Path.{_≡_};
-ghost use mir.Syntax.{w32};
-ghost use mir.Val.{ofZ};
 ghost use Rattle.l1.specs.Judge.{typeNo};
 ghost use Rattle.routine.specs.Says.{refusalOf};
 ghost use Rattle.checker.specs.Rules.{typeOf};
@@ -71,23 +69,11 @@ fn ending_of(e: Ending) -> u64
     }
 }
 
-// The bits of a number as a number, which is its two's complement.
-fn bits_of(n: i32) -> u64
-    ensures { λ r. ⌜ r ≡ ofZ w32 n ⌝ }
-{
-    let x = n as i64;
-    if x < 0 {
-        (x + 4294967296) as u64
-    } else {
-        x as u64
-    }
-}
-
 fn word_of(e: Ending) -> u64
     ensures { λ r. ⌜ r ≡ endingWord e ⌝ }
 {
     match e {
-        Ending::Int(n) => bits_of(n),
+        Ending::Int(n) => routine::bits_of(n) as u64,
         Ending::Bool(t) => { if t { 1 } else { 0 } }
         Ending::Skip => 0,
         Ending::Overflow(i) => i as u64,
