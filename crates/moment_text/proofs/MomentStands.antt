@@ -1,4 +1,4 @@
--- The places and the work of a moment are as the writers of its text ask.
+-- The places of a moment are as the writers of its text ask.
 use Prim.Native.Nat.{ℕ}
 use native.Mathlib.Omega.{arith}
 use mathlib.Core.List.{List}
@@ -6,7 +6,7 @@ use Rattle.l1.specs.Store.{Store}
 use Rattle.routine.specs.Open.{SizesOf, IsOpen, Runnable}
 use Rattle.routine.specs.declared.Sizes.{Sizes}
 use Rattle.machine.specs.Moment.{Moment}
-use Rattle.machine.specs.declared.state.Pending.{Pending}
+use Rattle.machine.specs.Lent.{pendingOf}
 use Rattle.machine.specs.declared.state.Machine.{Machine}
 use Rattle.machine.proofs.Turns.{height-fits}
 use Rattle.moment_text.specs.Stand.{Stands}
@@ -14,6 +14,5 @@ use Rattle.moment_text.specs.Stand.{Stands}
 pub is-open : {b : List ℕ} {z : Sizes} → Runnable b → SizesOf b z → IsOpen b z
 is-open ok n = record { sizes = n; opens = ok .opens; holds = ok .holds }
 
-pub moment-stands : {b : List ℕ} {z : Sizes} {s₀ s : Store} {p : Pending} {m : Machine}
-    → SizesOf b z → Moment b s₀ s p m → Stands b z (p .frames) (p .height) (m .work)
-moment-stands n i = let h = height-fits i in record { is-open = is-open (i .runnable) n; few = omega arith; frames = i .frames; held = i .held; seen = i .seen }
+pub moment-stands : {b : List ℕ} {z : Sizes} {s₀ s : Store} {ps : List ℕ} {h : ℕ} {m : Machine} → SizesOf b z → Moment b s₀ s (pendingOf ps h) m → Stands b z ps h
+moment-stands n i = let h = height-fits i in record { is-open = is-open (i .runnable) n; few = omega arith; lent = omega (arith, i .frames); held = i .held }

@@ -1,6 +1,5 @@
--- What the writers of a moment ask of its places and its work, and the text that the moment has.
+-- What the writers of a moment ask of its places, and the text that the moment has. The places are those that a lent slice of numbers stands for.
 use Prim.Native.Nat.{ℕ, _≤_, _<_}
-use mathlib.Core.Path.{_≡_}
 use mathlib.Core.List.{List}
 use lib.ListN.{length, getD}
 use Rattle.l1.specs.Text.{text}
@@ -8,20 +7,23 @@ use Rattle.stored.specs.Refusals.{count}
 use Rattle.routine.specs.Open.{IsOpen}
 use Rattle.routine.specs.declared.Sizes.{Sizes}
 use Rattle.machine.specs.Contexts.{plug}
-use Rattle.machine.specs.State.{exprOf, Seen, Held, blank, stack}
-use Rattle.machine.specs.declared.state.Frame.{Frame}
+use Rattle.machine.specs.State.{exprOf, Held, blank, stack}
+use Rattle.machine.specs.Lent.{framesOf}
+use Rattle.machine.specs.declared.state.Place.{Place}
 use Rattle.machine.specs.declared.state.Work.{Work}
 use Rattle.node_text.specs.Lengths.{LengthsOf}
 
-pub record Stands (b : List ℕ) (z : Sizes) (fs : List Frame) (h : ℕ) (x : Work) : Type 0 where
+abbrev pub placeIn : List ℕ → ℕ → Place
+placeIn ps j = getD (framesOf ps) j blank .place
+
+pub record Stands (b : List ℕ) (z : Sizes) (ps : List ℕ) (h : ℕ) : Type 0 where
   pub is-open : IsOpen b z
   pub few : h ≤ 256
-  pub frames : length fs ≡ 256
-  pub held : (j : ℕ) → j < h → Held b (getD fs j blank .place)
-  pub seen : Seen b x
+  pub lent : h ≤ length (framesOf ps)
+  pub held : (j : ℕ) → j < h → Held b (placeIn ps j)
 
-abbrev pub momentText : List ℕ → List Frame → ℕ → Work → List ℕ
-momentText b fs h x = text (plug (stack b fs h) (exprOf b x))
+abbrev pub momentText : List ℕ → List ℕ → ℕ → Work → List ℕ
+momentText b ps h x = text (plug (stack b (framesOf ps) h) (exprOf b x))
 
 -- the table has the lengths of all nodes' texts
 abbrev pub Measured : List ℕ → List ℕ → Type 0

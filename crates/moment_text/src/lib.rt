@@ -10,11 +10,11 @@ ghost use Rattle.l1.specs.Text.{bytes, integer, text};
 ghost use Rattle.stored.specs.Answers.{Opens};
 ghost use Rattle.routine.specs.Open.{IsOpen};
 ghost use Rattle.machine.specs.State.{exprOf, Seen, Held, contextOf, stack};
-ghost use Rattle.stepper.specs.Lent.{placeOf, framesOf};
+ghost use Rattle.machine.specs.Lent.{framesOf};
 ghost use Rattle.node_text.specs.Put.{Put};
 ghost use Rattle.node_text.specs.Texts.{textAt};
 ghost use Rattle.moment_text.specs.Around.{closing, closes, openingOf, opensOf};
-ghost use Rattle.moment_text.specs.Stand.{Stands, Measured, momentText};
+ghost use Rattle.moment_text.specs.Stand.{placeIn, Stands, Measured, momentText};
 use machine::Place;
 use machine::Work;
 use node_text::Sign;
@@ -105,48 +105,29 @@ fn put_work(b: &[u8], z: Sizes, x: Work, buf: &mut [u8], at: usize) -> usize
 }
 
 // What opens the places below h, the outermost first.
-fn put_opens(
-    tags: &[u8],
-    nodes: &[u32],
-    integers: &[i32],
-    h: usize,
-    buf: &mut [u8],
-    at: usize,
-) -> usize
-    requires { ⌜ (h ≤ 256) × (length (framesOf (now tags) (now nodes) (now integers)) ≡ 256) × (at + length (opensOf (framesOf (now tags) (now nodes) (now integers)) h) ≤ length (now buf)) ⌝ }
-    ensures { λ r. ⌜ Put (now (buf .entry)) at (opensOf (framesOf (now (tags .entry)) (now (nodes .entry)) (now (integers .entry))) h) (now (buf .exit)) r ⌝ }
+fn put_opens(places: &[u32], h: usize, buf: &mut [u8], at: usize) -> usize
+    requires { ⌜ (h ≤ length (framesOf (now places))) × (at + length (opensOf (framesOf (now places)) h) ≤ length (now buf)) ⌝ }
+    ensures { λ r. ⌜ Put (now (buf .entry)) at (opensOf (framesOf (now (places .entry))) h) (now (buf .exit)) r ⌝ }
 {
     let mut p = at;
     let mut j = 0;
     while j < h {
-        let f = stepper::place_of(tags[j], nodes[j], integers[j]);
-        p = put_opening(f, buf, p);
+        p = put_opening(machine::place_at(places, j), buf, p);
         j += 1;
     }
     p
 }
 
 // What closes them, the innermost first.
-fn put_closes(
-    b: &[u8],
-    z: Sizes,
-    tags: &[u8],
-    nodes: &[u32],
-    integers: &[i32],
-    h: usize,
-    x: Work,
-    buf: &mut [u8],
-    at: usize,
-) -> usize
-    requires { ⌜ Stands (now b) z (framesOf (now tags) (now nodes) (now integers)) h x × (at + length (closes (stack (now b) (framesOf (now tags) (now nodes) (now integers)) h)) ≤ length (now buf)) ⌝ }
-    ensures { λ r. ⌜ Put (now (buf .entry)) at (closes (stack (now (b .entry)) (framesOf (now (tags .entry)) (now (nodes .entry)) (now (integers .entry))) h)) (now (buf .exit)) r ⌝ }
+fn put_closes(b: &[u8], z: Sizes, places: &[u32], h: usize, buf: &mut [u8], at: usize) -> usize
+    requires { ⌜ Stands (now b) z (now places) h × (at + length (closes (stack (now b) (framesOf (now places)) h)) ≤ length (now buf)) ⌝ }
+    ensures { λ r. ⌜ Put (now (buf .entry)) at (closes (stack (now (b .entry)) (framesOf (now (places .entry))) h)) (now (buf .exit)) r ⌝ }
 {
     let mut p = at;
     let mut j = h;
     while 0 < j {
         j -= 1;
-        let f = stepper::place_of(tags[j], nodes[j], integers[j]);
-        p = put_closing(b, z, f, buf, p);
+        p = put_closing(b, z, machine::place_at(places, j), buf, p);
     }
     p
 }
@@ -154,20 +135,18 @@ fn put_closes(
 pub fn put_moment(
     b: &[u8],
     z: Sizes,
-    tags: &[u8],
-    nodes: &[u32],
-    integers: &[i32],
+    places: &[u32],
     h: usize,
     x: Work,
     buf: &mut [u8],
     at: usize,
 ) -> usize
-    requires { ⌜ Stands (now b) z (framesOf (now tags) (now nodes) (now integers)) h x × (at + length (momentText (now b) (framesOf (now tags) (now nodes) (now integers)) h x) ≤ length (now buf)) ⌝ }
-    ensures { λ r. ⌜ Put (now (buf .entry)) at (momentText (now (b .entry)) (framesOf (now (tags .entry)) (now (nodes .entry)) (now (integers .entry))) h x) (now (buf .exit)) r ⌝ }
+    requires { ⌜ Stands (now b) z (now places) h × Seen (now b) x × (at + length (momentText (now b) (now places) h x) ≤ length (now buf)) ⌝ }
+    ensures { λ r. ⌜ Put (now (buf .entry)) at (momentText (now (b .entry)) (now (places .entry)) h x) (now (buf .exit)) r ⌝ }
 {
-    let p = put_opens(tags, nodes, integers, h, buf, at);
+    let p = put_opens(places, h, buf, at);
     let q = put_work(b, z, x, buf, p);
-    put_closes(b, z, tags, nodes, integers, h, x, buf, q)
+    put_closes(b, z, places, h, buf, q)
 }
 
 // The length of what opens and closes a place.
@@ -194,15 +173,15 @@ fn place_length(b: &[u8], z: Sizes, f: Place, lengths: &[u32]) -> usize
     }
 }
 
-// The same from the lent slices. A moment with many loops under way has little else than places of the tag 8, a first part: they are asked for before the others.
-fn lent_length(b: &[u8], z: Sizes, tag: u8, i: u32, n: i32, lengths: &[u32]) -> usize
-    requires { ⌜ IsOpen (now b) z × Held (now b) (placeOf tag i n) × Measured (now b) (now lengths) ⌝ }
-    ensures { λ r. ⌜ (r ≡ length (openingOf (placeOf tag i n)) + length (closing (contextOf (now (b .entry)) (placeOf tag i n)))) × (r ≤ 400000) ⌝ }
+// The same of place j. A moment with many loops under way has little else than places of the tag 8, a first part: they are asked for before the others.
+fn lent_length(b: &[u8], z: Sizes, places: &[u32], j: usize, lengths: &[u32]) -> usize
+    requires { ⌜ IsOpen (now b) z × (j < length (framesOf (now places))) × Held (now b) (placeIn (now places) j) × Measured (now b) (now lengths) ⌝ }
+    ensures { λ r. ⌜ (r ≡ length (openingOf (placeIn (now (places .entry)) j)) + length (closing (contextOf (now (b .entry)) (placeIn (now (places .entry)) j)))) × (r ≤ 400000) ⌝ }
 {
-    if tag == 8 {
-        return 5 + node_text::length_in(lengths, i);
+    if machine::tag_at(places, j) == 8 {
+        return 5 + node_text::length_in(lengths, machine::number_at(places, j));
     }
-    place_length(b, z, stepper::place_of(tag, i, n), lengths)
+    place_length(b, z, machine::place_at(places, j), lengths)
 }
 
 fn work_length(b: &[u8], x: Work, lengths: &[u32]) -> usize
@@ -220,20 +199,18 @@ fn work_length(b: &[u8], x: Work, lengths: &[u32]) -> usize
 pub fn moment_length(
     b: &[u8],
     z: Sizes,
-    tags: &[u8],
-    nodes: &[u32],
-    integers: &[i32],
+    places: &[u32],
     h: usize,
     x: Work,
     lengths: &[u32],
 ) -> usize
-    requires { ⌜ Stands (now b) z (framesOf (now tags) (now nodes) (now integers)) h x × Measured (now b) (now lengths) ⌝ }
-    ensures { λ r. ⌜ (r ≡ length (momentText (now (b .entry)) (framesOf (now (tags .entry)) (now (nodes .entry)) (now (integers .entry))) h x)) × (r < 1000000000) ⌝ }
+    requires { ⌜ Stands (now b) z (now places) h × Seen (now b) x × Measured (now b) (now lengths) ⌝ }
+    ensures { λ r. ⌜ (r ≡ length (momentText (now (b .entry)) (now (places .entry)) h x)) × (r < 1000000000) ⌝ }
 {
     let mut r = work_length(b, x, lengths);
     let mut j = 0;
     while j < h {
-        r += lent_length(b, z, tags[j], nodes[j], integers[j], lengths);
+        r += lent_length(b, z, places, j, lengths);
         j += 1;
     }
     r

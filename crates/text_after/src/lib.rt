@@ -5,7 +5,7 @@ ghost use lib.ListN.{length, take};
 ghost use Rattle.stored.specs.Refusals.{locations, count};
 ghost use Rattle.stored.specs.Answers.{Writes};
 ghost use Rattle.routine.specs.Open.{SizesOf, Runnable};
-ghost use Rattle.stepper.specs.Lent.{framesOf};
+ghost use Rattle.machine.specs.Lent.{framesOf};
 ghost use Rattle.text_after.specs.Says.{wroteOf};
 ghost use Rattle.text_after.specs.Shows.{Shows};
 use checker::admission::Admission;
@@ -42,26 +42,24 @@ fn show(
     z: Sizes,
     s: &mut [i32],
     k: u32,
-    tags: &mut [u8],
-    nodes: &mut [u32],
-    integers: &mut [i32],
+    places: &mut [u32],
     lengths: &mut [u32],
     buf: &mut [u8],
 ) -> Wrote
-    requires { ⌜ Runnable (now b) × SizesOf (now b) z × (locations (now b) ≤ length (now s)) × (length (framesOf (now tags) (now nodes) (now integers)) ≡ 256) × (count (now b) ≤ length (now lengths)) ⌝ }
+    requires { ⌜ Runnable (now b) × SizesOf (now b) z × (locations (now b) ≤ length (now s)) × (length (framesOf (now places)) ≡ 256) × (count (now b) ≤ length (now lengths)) ⌝ }
     ensures { λ r. ⌜ Shows (now (b .entry)) (now (s .entry)) k (now (buf .entry)) (wroteOf r) (now (buf .exit)) ⌝ }
 {
     let first = machine::start(b, z, (z.nodes - 1) as u32);
-    let stand = stepper::go_to(b, z, tags, nodes, integers, 0, first, s, k as u64);
+    let stand = machine::go_to(b, z, places, 0, first, s, k as u64);
     let m = stand.machine;
     let x = m.work;
     let h = stand.height;
     node_text::measure(b, z, lengths);
-    let n = moment_text::moment_length(b, z, tags, nodes, integers, h, x, lengths);
+    let n = moment_text::moment_length(b, z, places, h, x, lengths);
     if buf.len() < n {
         return Wrote::Refused(Refusal::Buffer(n as u64));
     }
-    let end = moment_text::put_moment(b, z, tags, nodes, integers, h, x, buf, 0);
+    let end = moment_text::put_moment(b, z, places, h, x, buf, 0);
     Wrote::Text(Written {
         length: end,
         steps: m.steps,
@@ -77,21 +75,9 @@ fn text_typed(b: &[u8], z: Sizes, s: &[i32], k: u32, buf: &mut [u8]) -> Wrote
     let mut entries = [0i32; 64];
     let store = &mut entries[..m];
     copy(s, store);
-    let mut tags = [0u8; 256];
-    let mut nodes = [0u32; 256];
-    let mut integers = [0i32; 256];
+    let mut places = [0u32; 768];
     let mut lengths = [0u32; 4096];
-    show(
-        b,
-        z,
-        store,
-        k,
-        &mut tags,
-        &mut nodes,
-        &mut integers,
-        &mut lengths,
-        buf,
-    )
+    show(b, z, store, k, &mut places, &mut lengths, buf)
 }
 
 // The text after k steps. A refusal changes no byte of the buffer.

@@ -10,9 +10,9 @@ ghost use Rattle.l1.specs.Text.{bytes, decimal};
 ghost use Rattle.stored.specs.Refusals.{locations};
 ghost use Rattle.stored.specs.Trace.{newline, shortened, values, moment, counts, lastLine};
 ghost use Rattle.routine.specs.Open.{Runnable, SizesOf};
-ghost use Rattle.machine.specs.State.{outcomeOf};
+ghost use Rattle.machine.specs.State.{Seen, outcomeOf};
 ghost use Rattle.machine.specs.Moment.{meaning};
-ghost use Rattle.stepper.specs.Lent.{framesOf, pendingOf};
+ghost use Rattle.machine.specs.Lent.{framesOf, pendingOf};
 ghost use Rattle.node_text.specs.Put.{Put};
 ghost use Rattle.moment_text.specs.Stand.{Stands, Measured, momentText};
 ghost use Rattle.trace_lines.specs.Lines.{nameOf, outcomeText, LinesAt};
@@ -54,24 +54,22 @@ fn put_values(s: &[i32], buf: &mut [u8], at: usize) -> usize
 fn put_shown(
     b: &[u8],
     z: Sizes,
-    tags: &[u8],
-    nodes: &[u32],
-    integers: &[i32],
+    places: &[u32],
     h: usize,
     x: Work,
     lengths: &[u32],
     buf: &mut [u8],
     at: usize,
 ) -> usize
-    requires { ⌜ Stands (now b) z (framesOf (now tags) (now nodes) (now integers)) h x × Measured (now b) (now lengths) × (at + 8192 ≤ length (now buf)) ⌝ }
-    ensures { λ r. ⌜ Put (now (buf .entry)) at (shortened (momentText (now (b .entry)) (framesOf (now (tags .entry)) (now (nodes .entry)) (now (integers .entry))) h x)) (now (buf .exit)) r × (r ≤ at + 8192) ⌝ }
+    requires { ⌜ Stands (now b) z (now places) h × Seen (now b) x × Measured (now b) (now lengths) × (at + 8192 ≤ length (now buf)) ⌝ }
+    ensures { λ r. ⌜ Put (now (buf .entry)) at (shortened (momentText (now (b .entry)) (now (places .entry)) h x)) (now (buf .exit)) r × (r ≤ at + 8192) ⌝ }
 {
-    let n = moment_text::moment_length(b, z, tags, nodes, integers, h, x, lengths);
+    let n = moment_text::moment_length(b, z, places, h, x, lengths);
     if SHOWN < n {
         let p = node_text::put_byte(35, buf, at);
         node_text::put_decimal(n as u64, buf, p)
     } else {
-        moment_text::put_moment(b, z, tags, nodes, integers, h, x, buf, at)
+        moment_text::put_moment(b, z, places, h, x, buf, at)
     }
 }
 
@@ -119,9 +117,7 @@ fn put_tail(s: &[i32], buf: &mut [u8], at: usize) -> usize
 pub fn put_line(
     b: &[u8],
     z: Sizes,
-    tags: &[u8],
-    nodes: &[u32],
-    integers: &[i32],
+    places: &[u32],
     h: usize,
     m: Machine,
     s: &[i32],
@@ -129,12 +125,12 @@ pub fn put_line(
     buf: &mut [u8],
     at: usize,
 ) -> usize
-    requires { ⌜ Stands (now b) z (framesOf (now tags) (now nodes) (now integers)) h (m .work) × Measured (now b) (now lengths) × (length (now s) ≤ 64) × (at + 10000 ≤ length (now buf)) ⌝ }
-    ensures { λ r. ⌜ Put (now (buf .entry)) at (moment (m .steps) (nameOf (m .rule)) (meaning (now (b .entry)) (pendingOf (now (tags .entry)) (now (nodes .entry)) (now (integers .entry)) h) m) (now (s .entry))) (now (buf .exit)) r × (r ≤ at + 10000) ⌝ }
+    requires { ⌜ Stands (now b) z (now places) h × Seen (now b) (m .work) × Measured (now b) (now lengths) × (length (now s) ≤ 64) × (at + 10000 ≤ length (now buf)) ⌝ }
+    ensures { λ r. ⌜ Put (now (buf .entry)) at (moment (m .steps) (nameOf (m .rule)) (meaning (now (b .entry)) (pendingOf (now (places .entry)) h) m) (now (s .entry))) (now (buf .exit)) r × (r ≤ at + 10000) ⌝ }
 {
     let x = m.work;
     let p = put_head(m.steps, m.rule, buf, at);
-    let q = put_shown(b, z, tags, nodes, integers, h, x, lengths, buf, p);
+    let q = put_shown(b, z, places, h, x, lengths, buf, p);
     put_tail(s, buf, q)
 }
 
@@ -192,9 +188,7 @@ fn next_limit(steps: u64, fuel: u64) -> u64
 fn next_line(
     b: &[u8],
     z: Sizes,
-    tags: &mut [u8],
-    nodes: &mut [u32],
-    integers: &mut [i32],
+    places: &mut [u32],
     height: usize,
     machine: Machine,
     s: &mut [i32],
@@ -204,12 +198,12 @@ fn next_line(
     at: usize,
 ) -> Page
     requires { ⌜ (fuel < 4294967296) × (machine .steps ≤ fuel) × Measured (now b) (now lengths) × (length (now s) ≤ 64) × (at + 10000 ≤ length (now buf)) × SizesOf (now b) z ⌝ }
-    requires { ⌜ ((s₀ : Store) × (ls : List (List ℕ)) × LinesAt (now b) s₀ ls (pendingOf (now tags) (now nodes) (now integers) height) machine (now s)) ⌝ }
-    ensures { λ r. ⌜ ((s₀ : Store) (ls : List (List ℕ)) → LinesAt (now (b .entry)) s₀ ls (pendingOf (now (tags .entry)) (now (nodes .entry)) (now (integers .entry)) height) machine (now (s .entry)) → Tells (now (b .entry)) s₀ fuel ls (now (buf .entry)) at (now (buf .exit)) (pendingOf (now (tags .exit)) (now (nodes .exit)) (now (integers .exit)) (r .height)) (now (s .exit)) r) × Advanced fuel (machine .steps) (length (now (buf .entry))) r ⌝ }
+    requires { ⌜ ((s₀ : Store) × (ls : List (List ℕ)) × LinesAt (now b) s₀ ls (pendingOf (now places) height) machine (now s)) ⌝ }
+    ensures { λ r. ⌜ ((s₀ : Store) (ls : List (List ℕ)) → LinesAt (now (b .entry)) s₀ ls (pendingOf (now (places .entry)) height) machine (now (s .entry)) → Tells (now (b .entry)) s₀ fuel ls (now (buf .entry)) at (now (buf .exit)) (pendingOf (now (places .exit)) (r .height)) (now (s .exit)) r) × Advanced fuel (machine .steps) (length (now (buf .entry))) r ⌝ }
 {
     let steps = machine.steps;
     let limit = next_limit(steps, fuel);
-    let stand = stepper::go_to(b, z, tags, nodes, integers, height, machine, s, limit);
+    let stand = machine::go_to(b, z, places, height, machine, s, limit);
     let ending = stand.ending;
     let m = stand.machine;
     let h = stand.height;
@@ -222,7 +216,7 @@ fn next_line(
         };
     }
     Page {
-        at: put_line(b, z, tags, nodes, integers, h, m, s, lengths, buf, at),
+        at: put_line(b, z, places, h, m, s, lengths, buf, at),
         ended: false,
         height: h,
         machine: m,
@@ -233,9 +227,7 @@ fn next_line(
 pub fn fill_page(
     b: &[u8],
     z: Sizes,
-    tags: &mut [u8],
-    nodes: &mut [u32],
-    integers: &mut [i32],
+    places: &mut [u32],
     height: usize,
     machine: Machine,
     s: &mut [i32],
@@ -245,8 +237,8 @@ pub fn fill_page(
     at: usize,
 ) -> Page
     requires { ⌜ (fuel < 4294967296) × (machine .steps ≤ fuel) × Measured (now b) (now lengths) × (length (now s) ≤ 64) × (at + 10000 ≤ length (now buf)) × SizesOf (now b) z ⌝ }
-    requires { ⌜ ((s₀ : Store) × (ls : List (List ℕ)) × LinesAt (now b) s₀ ls (pendingOf (now tags) (now nodes) (now integers) height) machine (now s)) ⌝ }
-    ensures { λ r. ⌜ ((s₀ : Store) (ls : List (List ℕ)) → LinesAt (now (b .entry)) s₀ ls (pendingOf (now (tags .entry)) (now (nodes .entry)) (now (integers .entry)) height) machine (now (s .entry)) → Tells (now (b .entry)) s₀ fuel ls (now (buf .entry)) at (now (buf .exit)) (pendingOf (now (tags .exit)) (now (nodes .exit)) (now (integers .exit)) (r .height)) (now (s .exit)) r) × Advanced fuel (machine .steps) (length (now (buf .entry))) r ⌝ }
+    requires { ⌜ ((s₀ : Store) × (ls : List (List ℕ)) × LinesAt (now b) s₀ ls (pendingOf (now places) height) machine (now s)) ⌝ }
+    ensures { λ r. ⌜ ((s₀ : Store) (ls : List (List ℕ)) → LinesAt (now (b .entry)) s₀ ls (pendingOf (now (places .entry)) height) machine (now (s .entry)) → Tells (now (b .entry)) s₀ fuel ls (now (buf .entry)) at (now (buf .exit)) (pendingOf (now (places .exit)) (r .height)) (now (s .exit)) r) × Advanced fuel (machine .steps) (length (now (buf .entry))) r ⌝ }
 {
     let mut page = Page {
         at: at,
@@ -259,7 +251,7 @@ pub fn fill_page(
         let m = page.machine;
         let h = page.height;
         let p = page.at;
-        page = next_line(b, z, tags, nodes, integers, h, m, s, fuel, lengths, buf, p);
+        page = next_line(b, z, places, h, m, s, fuel, lengths, buf, p);
     }
     page
 }
@@ -268,31 +260,16 @@ pub fn fill_page(
 pub fn first_page(
     b: &[u8],
     z: Sizes,
-    tags: &mut [u8],
-    nodes: &mut [u32],
-    integers: &mut [i32],
+    places: &mut [u32],
     s: &mut [i32],
     fuel: u64,
     lengths: &[u32],
     buf: &mut [u8],
 ) -> Page
-    requires { ⌜ Runnable (now b) × (locations (now b) ≤ length (now s)) × (length (now s) ≤ 64) × (length (framesOf (now tags) (now nodes) (now integers)) ≡ 256) × Measured (now b) (now lengths) × (fuel < 4294967296) × (20000 ≤ length (now buf)) × SizesOf (now b) z ⌝ }
-    ensures { λ r. ⌜ Tells (now (b .entry)) (now (s .entry)) fuel [] (now (buf .entry)) 0 (now (buf .exit)) (pendingOf (now (tags .exit)) (now (nodes .exit)) (now (integers .exit)) (r .height)) (now (s .exit)) r × Advanced fuel 0 (length (now (buf .entry))) r ⌝ }
+    requires { ⌜ Runnable (now b) × (locations (now b) ≤ length (now s)) × (length (now s) ≤ 64) × (length (framesOf (now places)) ≡ 256) × Measured (now b) (now lengths) × (fuel < 4294967296) × (20000 ≤ length (now buf)) × SizesOf (now b) z ⌝ }
+    ensures { λ r. ⌜ Tells (now (b .entry)) (now (s .entry)) fuel [] (now (buf .entry)) 0 (now (buf .exit)) (pendingOf (now (places .exit)) (r .height)) (now (s .exit)) r × Advanced fuel 0 (length (now (buf .entry))) r ⌝ }
 {
     let first = machine::start(b, z, (z.nodes - 1) as u32);
-    let at = put_line(b, z, tags, nodes, integers, 0, first, s, lengths, buf, 0);
-    fill_page(
-        b,
-        z,
-        tags,
-        nodes,
-        integers,
-        0,
-        first,
-        s,
-        fuel,
-        lengths,
-        buf,
-        at,
-    )
+    let at = put_line(b, z, places, 0, first, s, lengths, buf, 0);
+    fill_page(b, z, places, 0, first, s, fuel, lengths, buf, at)
 }

@@ -10,7 +10,7 @@ ghost use lib.ListN.{length};
 ghost use Rattle.l1.specs.Store.{Store};
 ghost use Rattle.stored.specs.Refusals.{routine};
 ghost use Rattle.routine.specs.Open.{SizesOf};
-ghost use Rattle.stepper.specs.Lent.{pendingOf};
+ghost use Rattle.machine.specs.Lent.{pendingOf};
 ghost use Rattle.moment_text.specs.Stand.{Measured};
 ghost use Rattle.trace_lines.specs.Lines.{LinesAt};
 ghost use Rattle.trace_input.specs.Says.{Admitted};
@@ -23,9 +23,7 @@ use trace_lines::Page;
 fn print_pages(
     b: &[u8],
     z: Sizes,
-    tags: &mut [u8],
-    nodes: &mut [u32],
-    integers: &mut [i32],
+    places: &mut [u32],
     first: Page,
     s: &mut [i32],
     fuel: u64,
@@ -33,7 +31,7 @@ fn print_pages(
     buf: &mut [u8],
 ) -> bool
     requires { ⌜ (fuel < 4294967296) × (first .machine .steps ≤ fuel) × Measured (now b) (now lengths) × (length (now s) ≤ 64) × (10000 ≤ length (now buf)) × (first .at ≤ length (now buf)) × SizesOf (now b) z ⌝ }
-    requires { ⌜ (first .ended ≡ false → (s₀ : Store) × (ls : List (List ℕ)) × LinesAt (now b) s₀ ls (pendingOf (now tags) (now nodes) (now integers) (first .height)) (first .machine) (now s)) ⌝ }
+    requires { ⌜ (first .ended ≡ false → (s₀ : Store) × (ls : List (List ℕ)) × LinesAt (now b) s₀ ls (pendingOf (now places) (first .height)) (first .machine) (now s)) ⌝ }
 {
     let mut page = first;
     loop {
@@ -46,7 +44,7 @@ fn print_pages(
         }
         let m = page.machine;
         let h = page.height;
-        page = trace_lines::fill_page(b, z, tags, nodes, integers, h, m, s, fuel, lengths, buf, 0);
+        page = trace_lines::fill_page(b, z, places, h, m, s, fuel, lengths, buf, 0);
     }
 }
 
@@ -63,32 +61,9 @@ fn print_run(input: &[u8], z: Sizes, buf: &mut [u8]) -> bool
     let fuel = trace_input::fuel_in(input) as u64;
     let mut lengths = [0u32; 4096];
     node_text::measure(b, z, &mut lengths);
-    let mut tags = [0u8; 256];
-    let mut nodes = [0u32; 256];
-    let mut integers = [0i32; 256];
-    let first = trace_lines::first_page(
-        b,
-        z,
-        &mut tags,
-        &mut nodes,
-        &mut integers,
-        s,
-        fuel,
-        &lengths,
-        buf,
-    );
-    print_pages(
-        b,
-        z,
-        &mut tags,
-        &mut nodes,
-        &mut integers,
-        first,
-        s,
-        fuel,
-        &lengths,
-        buf,
-    )
+    let mut places = [0u32; 768];
+    let first = trace_lines::first_page(b, z, &mut places, s, fuel, &lengths, buf);
+    print_pages(b, z, &mut places, first, s, fuel, &lengths, buf)
 }
 
 // Prints what `trace` prints for an input, with the buffer for its lines.

@@ -35,7 +35,7 @@ copied c = rw (length-take-le _ _ (few (sized c))) at (c .copy .ensures)
 
 show-requires : tie.Need-show-requires
 show-requires c κs =
-    let k = c .before .before .before .before .before .before in
+    let k = c .before .before .before .before in
     let (ok, z, l) = entry k .pre in
     let h = is-headed (ok .opens) (ok .holds) in
     let n = sized k .usize-of-u8 .ensures .0 in
@@ -44,8 +44,8 @@ show-requires c κs =
 
 returns : tie.Need-returns
 returns c =
-    let r = c .before .before .before .before .before .before .before in
-    let k = r .before .before .before .before .before .before .before in
+    let r = c .before .before .before .before .before in
+    let k = r .before .before .before .before .before in
     let (ok, z, l) = entry k .pre in
     shown-written (sized k .usize-of-u8 .result) ok l (rw (copied k) at (r .show .ensures))
 
@@ -57,8 +57,6 @@ text-typed-spec =
     few
     (λ c. sym (length-take-le _ _ (few (c .before))))
     copy-requires
-    (λ c. search needs)
-    (λ c. search needs)
     (λ c. search needs)
     (λ c. search needs)
     show-requires

@@ -5,7 +5,6 @@ use mathlib.Core.List.{List}
 use lib.ListN.{length}
 use borrow.Author.Needs.{needs}
 use Rattle.l1.specs.Text.{decimal}
-use Rattle.stepper.specs.Lent.{framesOf}
 use Rattle.node_text.proofs.PutLaws.{put-more, room-left}
 use Rattle.node_text.proofs.NumberLengths.{few-digits}
 use Rattle.moment_text.specs.Stand.{momentText}
@@ -14,10 +13,10 @@ use Rattle.trace_lines.proofs.put_shown.Statement.{statement}
 use Rattle.trace_lines.proofs.put_shown.Tie as tie
 
 abbrev start : tie.After-moment-length → tie.Start
-start c = c .before .before .before .before .before .before
+start c = c .before .before .before .before .before
 
 abbrev itsText : tie.After-moment-length → List ℕ
-itsText c = let a = start c .args in momentText (a .b .now) (framesOf (a .tags .now) (a .nodes .now) (a .integers .now)) (a .h) (a .x)
+itsText c = let a = start c .args in momentText (a .b .now) (a .places .now) (a .h) (a .x)
 
 few : (c : tie.After-moment-length) → length (decimal (c .moment-length .result)) ≤ 20
 few c = few-digits (c .moment-length .result) (omega (arith, c .moment-length .ensures .1))
@@ -27,7 +26,7 @@ abbrev measured : tie.After-put-byte → tie.After-moment-length
 measured c = c .before .before .before
 
 room-for-length : (c : tie.After-put-byte) → c .put-byte .result + 8191 ≤ length (c .put-byte .last .1 .0)
-room-for-length c = room-left 1 8191 (c .put-byte .ensures) (omega arith) (start (measured c) .pre .2)
+room-for-length c = room-left 1 8191 (c .put-byte .ensures) (omega arith) (start (measured c) .pre .3)
 
 long : tie.Need-returns
 long c =

@@ -46,7 +46,7 @@ store-length c = c .values-in .kept .1 .0 ∙ length-take-le _ _ (few (sized c))
 
 first-page-requires : tie.Need-first-page-requires
 first-page-requires c κs =
-    let v = c .before .before .before .before .before .before .before .before .before .before .before in
+    let v = c .before .before .before .before .before .before .before .before .before in
     let e = ended (sized v) in
     let z = sizes e in
     let ok = runs e in
@@ -56,25 +56,25 @@ first-page-requires c κs =
       omega (arith, n, sized v .usize-of-u8 .ensures .0, z .1),
       omega (arith, n, few (sized v)),
       refl,
-      (omega (arith, c .before .before .before .before .before .before .before .measure .kept .1 .1 .0, h .few-nodes), c .before .before .before .before .before .before .before .measure .ensures .lengths),
-      c .before .before .before .before .before .before .before .before .before .fuel-in .ok,
+      (omega (arith, c .before .before .before .before .before .measure .kept .1 .1 .0, h .few-nodes), c .before .before .before .before .before .measure .ensures .lengths),
+      c .before .before .before .before .before .before .before .fuel-in .ok,
       start e .pre .2,
       z,
     )
 
 print-pages-requires : tie.Need-print-pages-requires
 print-pages-requires c κs =
-    let v = c .before .before .before .before .before .before .before .before .before .before .before .before .before .before .before .before .before .before .before .before .before .before .before in
+    let v = c .before .before .before .before .before .before .before .before .before .before .before .before .before .before .before .before .before in
     let e = ended (sized v) in
     let ok = runs e in
     let h = is-headed (ok .opens) (ok .holds) in
-    let p = c .before .before .before .before .before .before .before .before .before .before .before .first-page in
-    let room = p .kept .1 .1 .1 .1 .1 .1 .1 .1 .0 in (
+    let p = c .before .before .before .before .before .before .before .first-page in
+    let room = p .kept .1 .1 .1 .1 .1 .1 .0 in (
       (
-        c .before .before .before .before .before .before .before .before .before .before .before .before .before .before .before .before .before .before .before .before .before .fuel-in .ok,
+        c .before .before .before .before .before .before .before .before .before .before .before .before .before .before .before .fuel-in .ok,
         p .ensures .1 .0,
-        (omega (arith, c .before .before .before .before .before .before .before .before .before .before .before .before .before .before .before .before .before .before .before .measure .kept .1 .1 .0, h .few-nodes), c .before .before .before .before .before .before .before .before .before .before .before .before .before .before .before .before .before .before .before .measure .ensures .lengths),
-        omega (arith, p .kept .1 .1 .1 .1 .1 .0, store-length v, few (sized v)),
+        (omega (arith, c .before .before .before .before .before .before .before .before .before .before .before .before .before .measure .kept .1 .1 .0, h .few-nodes), c .before .before .before .before .before .before .before .before .before .before .before .before .before .measure .ensures .lengths),
+        omega (arith, p .kept .1 .1 .1 .0, store-length v, few (sized v)),
         omega (arith, room, start e .pre .2),
         omega (arith, room, p .ensures .1 .2),
         sizes e,
@@ -97,14 +97,10 @@ print-run-spec =
     (λ c. search needs)
     (λ c κs. let e = c .before .before .before .before .before .before .before .before in let ok = runs e in let h = is-headed (ok .opens) (ok .holds) in (is-open ok (sizes e), omega (arith, h .few-nodes)))
     (λ c. refl)
-    (λ c. refl)
-    (λ c. refl)
-    (λ c. sym (c .before .before .before .before .before .before .measure .kept .1 .1 .0))
+    (λ c. sym (c .before .before .before .before .measure .kept .1 .1 .0))
     first-page-requires
-    (λ c. sym (c .before .before .before .before .before .before .before .first-page .kept .1 .1 .0))
-    (λ c. sym (c .before .before .before .before .before .before .before .before .first-page .kept .1 .1 .1 .0))
-    (λ c. sym (c .before .before .before .before .before .before .before .before .before .first-page .kept .1 .1 .1 .1 .0))
-    (λ c. sym (c .before .before .before .before .before .before .before .before .before .before .before .before .before .before .before .before .before .before .measure .kept .1 .1 .0))
+    (λ c. sym (c .before .before .before .before .before .first-page .kept .1 .1 .0))
+    (λ c. sym (c .before .before .before .before .before .before .before .before .before .before .before .before .measure .kept .1 .1 .0))
     print-pages-requires
     (λ c. search needs)
     (λ c. tt))
