@@ -8,7 +8,7 @@ use lib.ListN.{length}
 use lib.Signed.{leZ}
 use Rattle.l1.specs.Syntax.{Op, plus, geq, Loc, Expr, int, bool, _‹_#_›_, if_then_else_, _:=_, !_, skip, _⨾_, while_do′_done, Value}
 use Rattle.l1.specs.Store.{Store, lookup, update}
-use Rattle.l1.specs.Range.{lowest, highest}
+use Rattle.l1.specs.Range.{int-min, int-max}
 use Rattle.l1.specs.Steps.{Rule, by-plus, by-geq, by-deref, by-assign, by-seq, by-if-true, by-if-false, by-while, ⟨_∣_⟩⟶⟨_∣_⟩_}
 use Rattle.l1.specs.Overflow.{_overflows-at_}
 
@@ -42,7 +42,7 @@ which (e₁ ⨾ e₂) = is-none
 which (while e₁ do′ e₂ done) = is-none
 
 abbrev pub in-range : ℤ → Bool
-in-range n = leZ lowest n && leZ n highest
+in-range n = leZ int-min n && leZ n int-max
 
 -- the act of a form whose parts are values; `none` where no rule is for them
 abbrev pub op-act : Op → ℕ → Which → Which → Store → Option Act

@@ -13,7 +13,7 @@ use Rattle.l1.specs.Measures.{size}
 use Rattle.l1.specs.Text.{decimal, integer, truth, text}
 use Rattle.l1.proofs.Range.{in-range-mag}
 use Rattle.stored.specs.Bytes.{byte, pair}
-use Rattle.stored.specs.Layout.{start, arg, TreeAt, at-int, at-bool, at-op, at-if, at-assign, at-deref, at-skip, at-seq, at-while}
+use Rattle.stored.specs.Layout.{nodeStart, arg, TreeAt, at-int, at-bool, at-op, at-if, at-assign, at-deref, at-skip, at-seq, at-while}
 use Rattle.stored.specs.Refusals.{count}
 use Rattle.stored.proofs.Signed.{signed-in-range}
 use Rattle.stored.proofs.Subtrees.{size-fits}
@@ -32,14 +32,14 @@ truth-length false = omega arith
 -- in bytes no location and no integer is long
 module _ (b : List ℕ) (small : (k : ℕ) → byte b k < 256) where
   location-length : (i : ℕ) {l : ℕ} → arg b i ≡ l → length (decimal l) ≤ 20
-  location-length i {l} e = few-digits l (omega (arith, small (start i + 1)))
+  location-length i {l} e = few-digits l (omega (arith, small (nodeStart i + 1)))
 
   pair-below : (k : ℕ) → pair b k < 65536
   pair-below k = omega (arith, small k, small (k + 1))
 
   integer-length : (i : ℕ) {n : ℤ} → n ≡ integerOf b i → length (integer n) ≤ 21
   integer-length i {n} e =
-      few-bytes n (rw e (in-range-mag (signed-in-range _ (omega (arith, pair-below (start i + 4), pair-below (start i + 6))))))
+      few-bytes n (rw e (in-range-mag (signed-in-range _ (omega (arith, pair-below (nodeStart i + 4), pair-below (nodeStart i + 6))))))
 
   text-length : {i : ℕ} {e : Expr} → TreeAt b i e → length (text e) ≤ 40 * size e
   unfolding text

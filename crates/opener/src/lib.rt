@@ -3,7 +3,7 @@ ghost use mathlib.Core.Path.{_≡_};
 ghost use Prim.Native.Nat.{_+_, _≤_, _<_, max};
 ghost use mathlib.Core.Bool.{cond};
 ghost use lib.ListN.{length};
-ghost use Rattle.stored.specs.Layout.{start};
+ghost use Rattle.stored.specs.Layout.{nodeStart};
 ghost use Rattle.stored.specs.Refusals.{count};
 ghost use Rattle.stored.specs.Answers.{Opening};
 ghost use Rattle.stored.specs.Headed.{Headed};
@@ -164,7 +164,7 @@ fn grown(f: Form, i: usize, p: usize, q: usize, r: usize) -> usize
 
 // The word of node i, 0 where the node breaks the layout; the table holds those of the nodes before it.
 fn word_at(b: &[u8], i: usize, mask: usize, words: &[u32]) -> usize
-    requires { ⌜ (start (i + 1) ≤ length (now b)) × (mask < length (now words)) × (i < 65536) ⌝ }
+    requires { ⌜ (nodeStart (i + 1) ≤ length (now b)) × (mask < length (now words)) × (i < 65536) ⌝ }
     ensures { λ r. ⌜ r ≡ wordAt (now (b .entry)) i (under mask (now (words .entry))) ⌝ }
 {
     let d = routine::node_at(b, i);

@@ -8,7 +8,7 @@ use lib.ListN.{length}
 use Rattle.l1.specs.Measures.{size, depth}
 use Rattle.l1.specs.Refused.{nodes, Node}
 use Rattle.l1.proofs.Nodes.{nth-some, nodes-length}
-use Rattle.stored.specs.Layout.{start, TreeAt}
+use Rattle.stored.specs.Layout.{nodeStart, TreeAt}
 use Rattle.stored.specs.Reader.{treeAt, StandBelow}
 use Rattle.stored.specs.Refusals.{count, Holds}
 use Rattle.stored.specs.Answers.{Opens}
@@ -46,7 +46,7 @@ module _ {b : List ℕ} (o : Opens b) (h : Holds b (rootOf b)) where
   root-nodes i l = both i l .1
 
 -- the eight bytes of a node are there
-pub node-bytes : {b : List ℕ} {z : Sizes} {i : ℕ} → IsOpen b z → i < z .nodes → start (i + 1) ≤ length b
+pub node-bytes : {b : List ℕ} {z : Sizes} {i : ℕ} → IsOpen b z → i < z .nodes → nodeStart (i + 1) ≤ length b
 node-bytes o h = omega (arith, o .sizes .0, is-headed (o .opens) (o .holds) .all-bytes)
 
 -- what the reading of node i asks, of a routine that may be run

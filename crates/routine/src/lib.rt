@@ -3,7 +3,7 @@ ghost use mathlib.Core.Path.{_≡_};
 ghost use Prim.Native.Nat.{_+_, _*_, _≤_, _<_};
 ghost use lib.ListN.{length};
 ghost use Rattle.stored.specs.Bytes.{pair, unsigned, signed};
-ghost use Rattle.stored.specs.Layout.{start, kind, arg, child1, child2, child3};
+ghost use Rattle.stored.specs.Layout.{nodeStart, kind, arg, child1, child2, child3};
 ghost use Rattle.stored.specs.Stages.{number};
 ghost use Rattle.stored.specs.Trace.{four, valuesFrom};
 ghost use Rattle.routine.specs.Forms.{formOf, kindOf, digitOf, nodeOf, integerOf};
@@ -206,7 +206,7 @@ pub fn four_at(b: &[u8], at: usize) -> u32
 }
 
 pub fn node_at(b: &[u8], i: usize) -> Node
-    requires { ⌜ start (i + 1) ≤ length (now b) ⌝ }
+    requires { ⌜ nodeStart (i + 1) ≤ length (now b) ⌝ }
     ensures { λ r. ⌜ r ≡ nodeOf (now (b .entry)) i ⌝ }
 {
     let at = 6 + 8 * i;

@@ -13,7 +13,7 @@ use Rattle.l1.specs.Refused.{nodes, nth-zero, Node}
 use Rattle.l1.proofs.Nodes.{nth-right, nth-some, nodes-length, size-positive}
 use Rattle.stored.specs.Bytes.{byte, pair, unsigned, signed}
 use Rattle.stored.specs.Stored.{nodeBytes, opKind, rootFrom, bytesFrom, stored, Storable}
-use Rattle.stored.specs.Layout.{start, NodeIs, TreeAt, at-int, at-bool, at-op, at-if, at-assign, at-deref, at-skip, at-seq, at-while}
+use Rattle.stored.specs.Layout.{nodeStart, NodeIs, TreeAt, at-int, at-bool, at-op, at-if, at-assign, at-deref, at-skip, at-seq, at-while}
 use Rattle.stored.specs.Refusals.{locations, count, Holds, Breaks}
 use Rattle.stored.proofs.Fits.{Fits, storable-fits, fits-left, fits-first, fits-second, fits-rest}
 use Rattle.stored.specs.Answers.{Opens}
@@ -52,10 +52,10 @@ two-root f n m = omega arith
 
 module _ (b : List ℕ) where
   abbrev Reads : Expr → Type 0
-  Reads e = (f : ℕ) → Fits f (nodes e) → start (f + size e) ≤ length b → part b f (size e) ≡ bytesFrom f e → TreeAt b (rootFrom f e) e
+  Reads e = (f : ℕ) → Fits f (nodes e) → nodeStart (f + size e) ≤ length b → part b f (size e) ≡ bytesFrom f e → TreeAt b (rootFrom f e) e
 
   two-read : (k : ℕ) (e₁ e₂ e : Expr) → Reads e₁ → Reads e₂ → (f : ℕ) → Fits f (nodes e₁ ++ nodes e₂ ++ e ∷ [])
-      → start (f + (1 + size e₁ + size e₂)) ≤ length b
+      → nodeStart (f + (1 + size e₁ + size e₂)) ≤ length b
       → part b f (1 + size e₁ + size e₂) ≡ bytesFrom f e₁ ++ bytesFrom (f + size e₁) e₂ ++ nodeBytes k 0 (rootFrom f e₁) (rootFrom (f + size e₁) e₂) 0
       → TwoBefore b (f + (size e₁ + size e₂)) k (rootFrom f e₁) (rootFrom (f + size e₁) e₂) e₁ e₂
   two-read k e₁ e₂ e r₁ r₂ f fits inside h =

@@ -7,7 +7,7 @@ use Rattle.l1.specs.Syntax.{Op, plus, geq, Expr, int, bool, _‹_#_›_, if_the
 use Rattle.l1.specs.Measures.{size}
 use Rattle.l1.specs.Refused.{nodes, nth-zero}
 use Rattle.l1.proofs.Nodes.{nth-right}
-use Rattle.stored.specs.Bytes.{byte, two}
+use Rattle.stored.specs.Bytes.{byte, twoBytes}
 use Rattle.stored.specs.Stored.{nodeBytes, opKind, rootFrom, bytesFrom, stored, Storable}
 use Rattle.stored.proofs.Fits.{Fits, storable-fits, fits-left, fits-first, fits-second, fits-rest}
 use Rattle.stored.proofs.Signed.{unsigned-below}
@@ -71,4 +71,4 @@ unfolding stored
 stored-bytes {m} {e} s =
     let a = s .few-locations in let n = s .few-nodes in
     let body = nodes-small e 0 (storable-fits s) (omega arith) in
-    small-byte (stored m e) (both-small (two (4 + 8 * size e) ++ 1 ∷ m ∷ two (size e)) (bytesFrom 0 e) (omega arith) body)
+    small-byte (stored m e) (both-small (twoBytes (4 + 8 * size e) ++ 1 ∷ m ∷ twoBytes (size e)) (bytesFrom 0 e) (omega arith) body)

@@ -11,7 +11,7 @@ use Rattle.l1.specs.Text.{bytes}
 use Rattle.l1.proofs.Determinism.{determinism}
 use Rattle.stored.specs.Stages.{Refusal, First}
 use Rattle.stored.specs.Refusals.{routine, after-routine, lent-input, tracing}
-use Rattle.stored.specs.Trace.{storeIn, moment, moments, lastLine, refusedLine, Prints, prints-refusal, prints-run}
+use Rattle.stored.specs.Trace.{storeIn, momentLine, momentLines, lastLine, refusedLine, Prints, prints-refusal, prints-run}
 use Rattle.stored.proofs.Reader.{holds-unique}
 use Rattle.stored.proofs.Stages.{when-single, first-unique, passes-none}
 use Rattle.stored.proofs.Admission.{admission-single}
@@ -19,7 +19,7 @@ use Rattle.stored.proofs.OneAnswer.{held-answer}
 
 -- the lines of a run's steps are told by where it starts and how many they are
 same-moments : {T T′ K K′ : ℕ} {e e′ a a′ : Expr} {s s′ z z′ : Store} (k : ℕ)
-    → T ≡ T′ → e ≡ e′ → s ≡ s′ → (ds : Run T K e s a z) (ds′ : Run T′ K′ e′ s′ a′ z′) → moments k ds ≡ moments k ds′
+    → T ≡ T′ → e ≡ e′ → s ≡ s′ → (ds : Run T K e s a z) (ds′ : Run T′ K′ e′ s′ a′ z′) → momentLines k ds ≡ momentLines k ds′
 same-moments k t q p stay stay = refl
 same-moments k t q p stay (more d ds) = absurd (omega arith)
 same-moments k t q p (more d ds) stay = absurd (omega arith)
@@ -44,5 +44,5 @@ prints-unique (prints-run none h y ds) (prints-refusal f) = absurd (passes-none 
 prints-unique {input} (prints-run none h y ds) (prints-run none′ h′ y′ ds′) =
     let q = holds-unique (routine input) h h′ in
     let a = held-answer (routine input) h h′ y y′ in
-    ap₂ _∷_ (ap (λ e. moment 0 (bytes "start") e (storeIn input)) q)
+    ap₂ _∷_ (ap (λ e. momentLine 0 (bytes "start") e (storeIn input)) q)
     (ap₂ (λ ms l. ms ++ l ∷ []) (same-moments 0 (ap steps-of a) q refl ds ds′) (ap last-of a))

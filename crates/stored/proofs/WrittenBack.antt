@@ -11,7 +11,7 @@ use Rattle.l1.specs.Range.{InRange}
 use Rattle.l1.specs.Measures.{size}
 use Rattle.stored.specs.Bytes.{byte}
 use Rattle.stored.specs.Stored.{nodeBytes, rootFrom, bytesFrom, stored, Storable}
-use Rattle.stored.specs.Layout.{start, NodeIs, TreeAt, at-int, at-bool, at-op, at-if, at-assign, at-deref, at-skip, at-seq, at-while}
+use Rattle.stored.specs.Layout.{nodeStart, NodeIs, TreeAt, at-int, at-bool, at-op, at-if, at-assign, at-deref, at-skip, at-seq, at-while}
 use Rattle.stored.specs.Refusals.{locations, Holds}
 use Rattle.stored.specs.Answers.{Opens}
 use Rattle.stored.proofs.Opens.{headed, all-nodes, not-deep}
@@ -26,7 +26,7 @@ module _ (b : List ℕ) (small : (k : ℕ) → byte b k < 256) where
 
   -- a node with two children
   two-written : {i k x y : ℕ} (e₁ e₂ : Expr) (f : ℕ) → NodeIs b i k 0 x y 0 → y + 1 ≡ i → x + size e₂ ≡ y
-      → f + (1 + size e₁ + size e₂) ≡ i + 1 → start (i + 1) ≤ length b
+      → f + (1 + size e₁ + size e₂) ≡ i + 1 → nodeStart (i + 1) ≤ length b
       → part b f (size e₁) ≡ bytesFrom f e₁ → part b (f + size e₁) (size e₂) ≡ bytesFrom (f + size e₁) e₂
       → part b f (1 + size e₁ + size e₂) ≡ bytesFrom f e₁ ++ bytesFrom (f + size e₁) e₂ ++ nodeBytes k 0 (rootFrom f e₁) (rootFrom (f + size e₁) e₂) 0
   two-written {i} {k} {x} {y} e₁ e₂ f n p q h inside w₁ w₂ =
@@ -40,13 +40,13 @@ module _ (b : List ℕ) (small : (k : ℕ) → byte b k < 256) where
   word : {i k a x y z : ℕ} → NodeIs b i k a x y z
       → (y * 65536 + z < 4294967296) × ((y * 65536 + z) / 65536 ≡ y) × ((y * 65536 + z) % 65536 ≡ z)
   word {i} {y = y} {z = z} nd =
-      let s4 = small (start i + 4) in let s5 = small (start i + 4 + 1) in let s6 = small (start i + 6) in let s7 = small (start i + 6 + 1) in
+      let s4 = small (nodeStart i + 4) in let s5 = small (nodeStart i + 4 + 1) in let s6 = small (nodeStart i + 6) in let s7 = small (nodeStart i + 6 + 1) in
       let upper : y < 65536 = omega arith in
       let lower : z < 65536 = omega arith in
       omega arith
 
   -- the bytes from node f to node i are the nodes of the tree at node i
-  pub written : {i : ℕ} {e : Expr} → TreeAt b i e → (f : ℕ) → f + size e ≡ i + 1 → start (i + 1) ≤ length b → part b f (size e) ≡ bytesFrom f e
+  pub written : {i : ℕ} {e : Expr} → TreeAt b i e → (f : ℕ) → f + size e ≡ i + 1 → nodeStart (i + 1) ≤ length b → part b f (size e) ≡ bytesFrom f e
   unfolding bytesFrom
   written (at-int {i} {y} {z} {n} nd v) f h inside =
       let g : f ≡ i = omega arith in
@@ -83,10 +83,10 @@ module _ (b : List ℕ) (small : (k : ℕ) → byte b k < 256) where
   int-fits (at-int {y = y} {z = z} nd v) = rw v (signed-in-range (y * 65536 + z) (word nd .0))
 
   deref-fits : {i : ℕ} {l : Loc} → TreeAt b i (! l) → l ≤ 255
-  deref-fits (at-deref {i} nd) = let h = small (start i + 1) in omega arith
+  deref-fits (at-deref {i} nd) = let h = small (nodeStart i + 1) in omega arith
 
   assign-fits : {i : ℕ} {l : Loc} {e : Expr} → TreeAt b i (l := e) → l ≤ 255
-  assign-fits (at-assign {i} nd p t) = let h = small (start i + 1) in omega arith
+  assign-fits (at-assign {i} nd p t) = let h = small (nodeStart i + 1) in omega arith
 
   op-number : {i j : ℕ} {o : Op} {e₁ e₂ : Expr} → TreeAt b i (e₁ ‹ o # j › e₂) → j ≡ i
   op-number (at-op nd p q t₁ t₂) = refl

@@ -15,8 +15,8 @@ abbrev pub pair : List ℕ → ℕ → ℕ
 pair b at = byte b at * 256 + byte b (at + 1)
 
 -- a number below 65,536 in two bytes
-abbrev pub two : ℕ → List ℕ
-two x = x / 256 ∷ x % 256 ∷ []
+abbrev pub twoBytes : ℕ → List ℕ
+twoBytes x = x / 256 ∷ x % 256 ∷ []
 
 -- two's complement in 32 bits, and back; `negsuc n` is −(n + 1), that is 2^32 − 1 − n
 abbrev pub unsigned : ℤ → ℕ

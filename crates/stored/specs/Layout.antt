@@ -11,23 +11,23 @@ use Rattle.stored.specs.Bytes.{byte, pair, signed}
 use Rattle.stored.specs.Stored.{opKind}
 
 -- where node i begins
-abbrev pub start : ℕ → ℕ
-start i = 6 + 8 * i
+abbrev pub nodeStart : ℕ → ℕ
+nodeStart i = 6 + 8 * i
 
 abbrev pub kind : List ℕ → ℕ → ℕ
-kind b i = byte b (start i)
+kind b i = byte b (nodeStart i)
 
 abbrev pub arg : List ℕ → ℕ → ℕ
-arg b i = byte b (start i + 1)
+arg b i = byte b (nodeStart i + 1)
 
 abbrev pub child1 : List ℕ → ℕ → ℕ
-child1 b i = pair b (start i + 2)
+child1 b i = pair b (nodeStart i + 2)
 
 abbrev pub child2 : List ℕ → ℕ → ℕ
-child2 b i = pair b (start i + 4)
+child2 b i = pair b (nodeStart i + 4)
 
 abbrev pub child3 : List ℕ → ℕ → ℕ
-child3 b i = pair b (start i + 6)
+child3 b i = pair b (nodeStart i + 6)
 
 -- the eight bytes of node i are those of this kind, argument and these children
 pub record NodeIs (b : List ℕ) (i k a x y z : ℕ) : Type 0 where

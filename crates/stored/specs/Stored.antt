@@ -7,11 +7,11 @@ use Rattle.l1.specs.Syntax.{Op, plus, geq, Loc, Expr, int, bool, _‹_#_›_, i
 use Rattle.l1.specs.Range.{InRange}
 use Rattle.l1.specs.Measures.{size, depth}
 use Rattle.l1.specs.Refused.{Node, Numbered}
-use Rattle.stored.specs.Bytes.{two, unsigned}
+use Rattle.stored.specs.Bytes.{twoBytes, unsigned}
 
 -- "byte 0 kind, byte 1 a small argument, bytes 2-3, 4-5 and 6-7 the numbers of the first, second and third child"; what is not used is 0
 abbrev pub nodeBytes : ℕ → ℕ → ℕ → ℕ → ℕ → List ℕ
-nodeBytes kind arg first second third = kind ∷ arg ∷ two first ++ two second ++ two third
+nodeBytes kind arg first second third = kind ∷ arg ∷ twoBytes first ++ twoBytes second ++ twoBytes third
 
 abbrev pub opKind : Op → ℕ
 opKind plus = 2
@@ -48,7 +48,7 @@ bytesFrom f (while e₁ do′ e₂ done) =
 
 -- "Bytes 0-1: the number of bytes after them. Byte 2: version, 1. Byte 3: m. Bytes 4-5: n, the number of nodes. Then n nodes of 8 bytes."
 unfoldable pub stored : ℕ → Expr → List ℕ
-stored m e = two (4 + 8 * size e) ++ 1 ∷ m ∷ two (size e) ++ bytesFrom 0 e
+stored m e = twoBytes (4 + 8 * size e) ++ 1 ∷ m ∷ twoBytes (size e) ++ bytesFrom 0 e
 
 -- the trees that a routine can hold: within the limits of 01, integers of 32 bits, locations of one byte, and each operator numbered by its
 -- own node

@@ -37,27 +37,27 @@ abbrev pub shortened : List ℕ → List ℕ
 shortened t = cond (ltb 8192 (length t)) (bytes "#" ++ decimal (length t)) t
 
 -- "each location's value after one space"
-abbrev pub values : Store → List ℕ
-values [] = []
-values (n ∷ s) = bytes " " ++ integer n ++ values s
+abbrev pub valuesText : Store → List ℕ
+valuesText [] = []
+valuesText (n ∷ s) = bytes " " ++ integer n ++ valuesText s
 
 -- "step number, rule (`start` at 0), text, ` |`, then each location's value after one space"
-abbrev pub moment : ℕ → List ℕ → Expr → Store → List ℕ
-moment k rule e s = decimal k ++ bytes " " ++ rule ++ bytes " " ++ shortened (text e) ++ bytes " |" ++ values s ++ newline
+abbrev pub momentLine : ℕ → List ℕ → Expr → Store → List ℕ
+momentLine k rule e s = decimal k ++ bytes " " ++ rule ++ bytes " " ++ shortened (text e) ++ bytes " |" ++ valuesText s ++ newline
 
 -- "One line a moment": a line after each step, the steps before the first of them being k
-abbrev pub moments : {T K : ℕ} {e e′ : Expr} {s s′ : Store} → ℕ → Run T K e s e′ s′ → List (List ℕ)
-moments k stay = []
-moments k (more {r = r} {e₁ = e₁} {s₁ = s₁} d ds) = moment (suc k) (ruleName r) e₁ s₁ ∷ moments (suc k) ds
+abbrev pub momentLines : {T K : ℕ} {e e′ : Expr} {s s′ : Store} → ℕ → Run T K e s e′ s′ → List (List ℕ)
+momentLines k stay = []
+momentLines k (more {r = r} {e₁ = e₁} {s₁ = s₁} d ds) = momentLine (suc k) (ruleName r) e₁ s₁ ∷ momentLines (suc k) ds
 
-abbrev pub counts : ℕ → ℕ → List ℕ
-counts T K = bytes " steps " ++ decimal T ++ bytes " loops " ++ decimal K ++ newline
+abbrev pub countsText : ℕ → ℕ → List ℕ
+countsText T K = bytes " steps " ++ decimal T ++ bytes " loops " ++ decimal K ++ newline
 
 -- "Last line: `value V steps T loops K`, or `overflow at N steps T loops K`, or `fuel steps T loops K`"
 abbrev pub lastLine : Outcome → ℕ → ℕ → List ℕ
-lastLine (value v) T K = bytes "value " ++ text v ++ counts T K
-lastLine (overflow n) T K = bytes "overflow at " ++ decimal n ++ counts T K
-lastLine fuel T K = bytes "fuel" ++ counts T K
+lastLine (value v) T K = bytes "value " ++ text v ++ countsText T K
+lastLine (overflow n) T K = bytes "overflow at " ++ decimal n ++ countsText T K
+lastLine fuel T K = bytes "fuel" ++ countsText T K
 
 -- "`refused C`, with ` at N` for 7 and 20 to 23"; no other number of `trace` has anything with it
 abbrev pub refusedLine : Refusal → List ℕ
@@ -73,4 +73,4 @@ pub data Prints (input : List ℕ) : List (List ℕ) → Type 0 where
       → Passes (tracing input) → Holds (routine input) e
       → Yields (fuelIn input) e (storeIn input) (answer o T K e′ s′)
       → (steps : Run T K e (storeIn input) e′ s′)
-      → Prints input (moment 0 (bytes "start") e (storeIn input) ∷ moments 0 steps ++ lastLine o T K ∷ [])
+      → Prints input (momentLine 0 (bytes "start") e (storeIn input) ∷ momentLines 0 steps ++ lastLine o T K ∷ [])

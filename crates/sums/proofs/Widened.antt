@@ -10,7 +10,7 @@ use mir.Syntax.{w32, w64}
 use mir.Val.{SFits, toZ, ofZ}
 use mir.Facts.{toZ-ofZ, sfits-widen}
 use borrow.Author.Tests.{ltb-true, ltb-false}
-use Rattle.l1.specs.Range.{lowest, highest}
+use Rattle.l1.specs.Range.{int-min, int-max}
 use Rattle.l1.specs.Next.{in-range}
 use Rattle.sums.specs.Sum.{pick, sumOf}
 use Rattle.sums.specs.declared.Sum.the-variants.{In, Out}
@@ -41,27 +41,27 @@ pub computed-sum : (a b : ℤ) → SFits w32 a → SFits w32 b → computed a b 
 computed-sum a b f g = rw (widened f, widened g) (toZ-ofZ (sum-fits a b f g))
 
 -- what the tests of `add` tell
-pub sum-below : (a b : ℤ) → ltZ (a +ℤ b) lowest ≡ true → Out ≡ sumOf a b
+pub sum-below : (a b : ℤ) → ltZ (a +ℤ b) int-min ≡ true → Out ≡ sumOf a b
 sum-below a b h = by-test (out-below (a +ℤ b) h)
   where
     by-test : in-range (a +ℤ b) ≡ false → Out ≡ sumOf a b
     by-test e = ap (λ (t : Bool). pick t (In (a +ℤ b)) Out) (sym e)
 
-    out-below : (z : ℤ) → ltZ z lowest ≡ true → in-range z ≡ false
+    out-below : (z : ℤ) → ltZ z int-min ≡ true → in-range z ≡ false
     out-below (pos n) l = absurd (let k : _≡_ {A = ℕ} 0 1 = cc in omega arith)
     out-below (negsuc n) l = test-out (negsuc n) (mag-out-of-range (negsuc n) (omega (arith, ltb-true 2147483647 n l)))
 
-pub sum-above : (a b : ℤ) → ltZ highest (a +ℤ b) ≡ true → Out ≡ sumOf a b
+pub sum-above : (a b : ℤ) → ltZ int-max (a +ℤ b) ≡ true → Out ≡ sumOf a b
 sum-above a b h = by-test (out-above (a +ℤ b) h)
   where
     by-test : in-range (a +ℤ b) ≡ false → Out ≡ sumOf a b
     by-test e = ap (λ (t : Bool). pick t (In (a +ℤ b)) Out) (sym e)
 
-    out-above : (z : ℤ) → ltZ highest z ≡ true → in-range z ≡ false
+    out-above : (z : ℤ) → ltZ int-max z ≡ true → in-range z ≡ false
     out-above (pos n) l = test-out (pos n) (mag-out-of-range (pos n) (omega (arith, ltb-true 2147483647 n l)))
     out-above (negsuc n) l = absurd (let k : _≡_ {A = ℕ} 0 1 = cc in omega arith)
 
-pub between : (z : ℤ) → ltZ z lowest ≡ false → ltZ highest z ≡ false → SFits w32 z
+pub between : (z : ℤ) → ltZ z int-min ≡ false → ltZ int-max z ≡ false → SFits w32 z
 between (pos n) l h = record { sfits = omega (arith, ltb-false 2147483647 n h) }
 between (negsuc n) l h = record { sfits = omega (arith, ltb-false 2147483647 n l) }
 

@@ -12,10 +12,10 @@ use Rattle.l1.specs.Syntax.{Expr}
 use Rattle.l1.specs.Store.{Store}
 use Rattle.l1.specs.Run.{Outcome, value, overflow, fuel}
 use Rattle.l1.specs.Text.{bytes, decimal, integer, text}
-use Rattle.stored.specs.Trace.{newline, shortened, values, moment, counts, lastLine}
+use Rattle.stored.specs.Trace.{newline, shortened, valuesText, momentLine, countsText, lastLine}
 use Rattle.trace_lines.specs.Lines.{outcomeText, joined}
 
-pub last-parts : (o : Outcome) (T K : ℕ) → lastLine o T K ≡ outcomeText o ++ counts T K
+pub last-parts : (o : Outcome) (T K : ℕ) → lastLine o T K ≡ outcomeText o ++ countsText T K
 last-parts (value v) T K = refl
 last-parts (overflow n) T K = refl
 last-parts fuel T K = refl
@@ -25,8 +25,8 @@ regroup : (a b c d e f g h : List ℕ) → a ++ b ++ c ++ d ++ e ++ f ++ g ++ h 
 regroup a b c d e f g h = simp append-assoc
 
 pub moment-parts : (k : ℕ) (name : List ℕ) (e : Expr) (s : Store)
-    → moment k name e s ≡ (decimal k ++ bytes " " ++ name ++ bytes " ") ++ shortened (text e) ++ (bytes " |" ++ values s ++ newline)
-moment-parts k name e s = regroup (decimal k) (bytes " ") name (bytes " ") (shortened (text e)) (bytes " |") (values s) newline
+    → momentLine k name e s ≡ (decimal k ++ bytes " " ++ name ++ bytes " ") ++ shortened (text e) ++ (bytes " |" ++ valuesText s ++ newline)
+moment-parts k name e s = regroup (decimal k) (bytes " ") name (bytes " ") (shortened (text e)) (bytes " |") (valuesText s) newline
 
 pub joined-more : (ms : List (List ℕ)) (l : List ℕ) → joined (ms ++ l ∷ []) ≡ joined ms ++ l
 joined-more [] l = append-nil l
@@ -36,12 +36,12 @@ joined-more (m ∷ ms) l = ap (λ (t : List ℕ). m ++ t) (joined-more ms l) ∙
 regroup-value : (a b c d e : List ℕ) → a ++ b ++ (c ++ d ++ e) ≡ a ++ b ++ c ++ d ++ e
 regroup-value a b c d e = simp append-assoc
 
-pub values-more : (s : Store) (i : ℕ) → i < length s → values (take (suc i) s) ≡ values (take i s) ++ bytes " " ++ integer (getD s i (pos 0))
+pub values-more : (s : Store) (i : ℕ) → i < length s → valuesText (take (suc i) s) ≡ valuesText (take i s) ++ bytes " " ++ integer (getD s i (pos 0))
 values-more [] i h = absurd (omega arith)
 values-more (n ∷ s) zero h = append-nil (bytes " " ++ integer n)
 values-more (n ∷ s) (suc i) h =
     ap (λ (t : List ℕ). bytes " " ++ integer n ++ t) (values-more s i (omega arith))
-    ∙ regroup-value (bytes " ") (integer n) (values (take i s)) (bytes " ") (integer (getD s i (pos 0)))
+    ∙ regroup-value (bytes " ") (integer n) (valuesText (take i s)) (bytes " ") (integer (getD s i (pos 0)))
 
 -- a text as it is shown, by its length n
 pub shown-long : (t : List ℕ) (n : ℕ) → n ≡ length t → 8192 < n → shortened t ≡ bytes "#" ++ decimal n

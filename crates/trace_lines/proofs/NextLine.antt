@@ -14,7 +14,7 @@ use Rattle.l1.proofs.Determinism.{determinism}
 use Rattle.l1.proofs.Values.{value-makes-no-step}
 use Rattle.l1.proofs.OneAct.{overflow-makes-no-step}
 use Rattle.l1.proofs.Outcomes.{answer-counts-steps}
-use Rattle.stored.specs.Trace.{moment, moments, lastLine}
+use Rattle.stored.specs.Trace.{momentLine, momentLines, lastLine}
 use Rattle.routine.specs.Open.{rootOf}
 use Rattle.machine.specs.Acts.{ruleNo}
 use Rattle.machine.specs.Moment.{meaning, LastStep, no-step, last-step, Moment}
@@ -36,7 +36,7 @@ same-end t q p (more d ds) (more d′ ds′) =
 -- the lines of a run with one step more
 moments-more : (k : ℕ) {T T′ K K′ : ℕ} {r : Rule} {e e′ a a₁ a′ : Expr} {s s′ z z₁ z′ : Store}
     → (ds : Run T K e s a z) → ⟨ a ∣ z ⟩⟶⟨ a₁ ∣ z₁ ⟩ r → (ds′ : Run T′ K′ e′ s′ a′ z′) → T′ ≡ suc T → e ≡ e′ → s ≡ s′
-    → moments k ds′ ≡ moments k ds ++ moment (suc (k + T)) (ruleName r) a₁ z₁ ∷ []
+    → momentLines k ds′ ≡ momentLines k ds ++ momentLine (suc (k + T)) (ruleName r) a₁ z₁ ∷ []
 moments-more k stay d stay t q p = absurd (omega arith)
 moments-more k stay d (more d′ stay) t q p =
     let (r, q′, p′) = determinism (rw (q, p) at d) d′ in rw (add-zero k, r, q′, p′) refl
@@ -46,7 +46,7 @@ moments-more k {r = r} {a₁ = a₁} {z₁ = z₁} (more {T = T} d ds) d₁ (mor
     let (r′, q′, p′) = determinism (rw (q, p) at d) d′ in
     let n : suc (suc k + T) ≡ suc (k + suc T) = omega arith in
     ap₂ _∷_ (rw (r′, q′, p′) refl)
-    (moments-more (suc k) ds d₁ ds′ (omega arith) q′ p′ ∙ ap (λ (i : ℕ). moments (suc k) ds ++ moment i (ruleName r) a₁ z₁ ∷ []) n)
+    (moments-more (suc k) ds d₁ ds′ (omega arith) q′ p′ ∙ ap (λ (i : ℕ). momentLines (suc k) ds ++ momentLine i (ruleName r) a₁ z₁ ∷ []) n)
 
 name-is : (r : Rule) → nameOf (ruleNo r) ≡ ruleName r
 name-is by-plus = refl
@@ -61,7 +61,7 @@ name-is by-while = refl
 module _ {b : List ℕ} {s₀ : Store} where
   told-next : {ls : List (List ℕ)} {T T′ K ρ : ℕ} {e e′ : Expr} {s s′ : Store} → LinesTo b s₀ ls T e s → T′ ≡ suc T
       → Run T′ K (rootOf b) s₀ e′ s′ → LastStep (rootOf b) s₀ T′ e′ s′ ρ
-      → LinesTo b s₀ (ls ++ moment T′ (nameOf ρ) e′ s′ ∷ []) T′ e′ s′
+      → LinesTo b s₀ (ls ++ momentLine T′ (nameOf ρ) e′ s′ ∷ []) T′ e′ s′
   told-next (lines-to ds) t ds′ (no-step z) = absurd (omega arith)
   told-next {T′ = T′} {ρ = ρ} {e′ = e′} {s′ = s′} (lines-to {T} {e = e} {s = s} ds) t ds′ (last-step {r = r} u run d n) =
       let (q, p, k) = same-end (omega arith) refl refl ds run in
@@ -69,8 +69,8 @@ module _ {b : List ℕ} {s₀ : Store} where
       let m = moments-more 0 ds step ds′ t refl refl in
       let w : ruleName r ≡ nameOf ρ = rw n (sym (name-is r)) in
       let n′ : suc (0 + T) ≡ T′ = omega arith in
-      subst (λ (x : List (List ℕ)). LinesTo b s₀ (moment 0 (bytes "start") (rootOf b) s₀ ∷ x) T′ e′ s′)
-      (m ∙ ap₂ (λ (i : ℕ) (name : List ℕ). moments 0 ds ++ moment i name e′ s′ ∷ []) n′ w)
+      subst (λ (x : List (List ℕ)). LinesTo b s₀ (momentLine 0 (bytes "start") (rootOf b) s₀ ∷ x) T′ e′ s′)
+      (m ∙ ap₂ (λ (i : ℕ) (name : List ℕ). momentLines 0 ds ++ momentLine i name e′ s′ ∷ []) n′ w)
       (lines-to ds′)
 
   told-last : {ls : List (List ℕ)} {f T T′ K : ℕ} {o : Outcome} {e e′ : Expr} {s s′ : Store} → LinesTo b s₀ ls T e s → T ≡ T′
@@ -113,7 +113,7 @@ module _ {b : List ℕ} {s₀ s s′ : Store} {ls : List (List ℕ)} {p p′ : P
   goes-no-back l = (not-before l refl refl (i .moment .run) y, answer-counts-steps y .1)
 
   pub one-more-line : m′ .steps ≡ suc (m .steps)
-      → LinesAt b s₀ (ls ++ moment (m′ .steps) (nameOf (m′ .rule)) (meaning b p′ m′) s′ ∷ []) p′ m′ s′
+      → LinesAt b s₀ (ls ++ momentLine (m′ .steps) (nameOf (m′ .rule)) (meaning b p′ m′) s′ ∷ []) p′ m′ s′
   one-more-line t = record { moment = next; lines = told-next (i .lines) t (next .run) (next .last) }
 
   pub last-line : (f : ℕ) → m .steps ≡ m′ .steps → (limit ≡ f) ⊎ ((m .steps < limit) × (limit ≤ f))

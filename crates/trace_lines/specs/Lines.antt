@@ -6,7 +6,7 @@ use Rattle.l1.specs.Syntax.{Expr}
 use Rattle.l1.specs.Store.{Store}
 use Rattle.l1.specs.Run.{Run, Outcome, value, overflow, fuel, answer, Yields}
 use Rattle.l1.specs.Text.{bytes, decimal, text}
-use Rattle.stored.specs.Trace.{moment, moments, lastLine}
+use Rattle.stored.specs.Trace.{momentLine, momentLines, lastLine}
 use Rattle.routine.specs.Open.{rootOf}
 use Rattle.machine.specs.Moment.{meaning, Moment}
 use Rattle.machine.specs.declared.state.Pending.{Pending}
@@ -15,7 +15,7 @@ use Rattle.machine.specs.declared.state.Machine.{Machine}
 -- the line of every moment up to ⟨e, s⟩, which a run from s₀ comes to after T steps
 pub data LinesTo (b : List ℕ) (s₀ : Store) : List (List ℕ) → ℕ → Expr → Store → Type 0 where
   lines-to : {T K : ℕ} {e : Expr} {s : Store} → (ds : Run T K (rootOf b) s₀ e s)
-      → LinesTo b s₀ (moment 0 (bytes "start") (rootOf b) s₀ ∷ moments 0 ds) T e s
+      → LinesTo b s₀ (momentLine 0 (bytes "start") (rootOf b) s₀ ∷ momentLines 0 ds) T e s
 
 -- those, and the last line
 pub data AllLines (b : List ℕ) (s₀ : Store) (f : ℕ) : List (List ℕ) → Type 0 where

@@ -8,7 +8,7 @@ ghost use lib.ListN.{length};
 ghost use Rattle.l1.specs.Store.{Store};
 ghost use Rattle.l1.specs.Text.{bytes, decimal};
 ghost use Rattle.stored.specs.Refusals.{locations};
-ghost use Rattle.stored.specs.Trace.{newline, shortened, values, moment, counts, lastLine};
+ghost use Rattle.stored.specs.Trace.{newline, shortened, valuesText, momentLine, countsText, lastLine};
 ghost use Rattle.routine.specs.Open.{Runnable, SizesOf};
 ghost use Rattle.machine.specs.State.{Seen, outcomeOf};
 ghost use Rattle.machine.specs.Moment.{meaning};
@@ -39,7 +39,7 @@ const SHOWN: usize = 8192;
 // Each value after one space; none takes more than 22 bytes with it.
 fn put_values(s: &[i32], buf: &mut [u8], at: usize) -> usize
     requires { ⌜ at + 22 * length (now s) ≤ length (now buf) ⌝ }
-    ensures { λ r. ⌜ Put (now (buf .entry)) at (values (now (s .entry))) (now (buf .exit)) r × (r ≤ at + 22 * length (now (s .entry))) ⌝ }
+    ensures { λ r. ⌜ Put (now (buf .entry)) at (valuesText (now (s .entry))) (now (buf .exit)) r × (r ≤ at + 22 * length (now (s .entry))) ⌝ }
 {
     let mut p = at;
     let mut i = 0;
@@ -106,7 +106,7 @@ fn put_head(steps: u64, rule: u64, buf: &mut [u8], at: usize) -> usize
 // What stands behind it.
 fn put_tail(s: &[i32], buf: &mut [u8], at: usize) -> usize
     requires { ⌜ (length (now s) ≤ 64) × (at + 1500 ≤ length (now buf)) ⌝ }
-    ensures { λ r. ⌜ Put (now (buf .entry)) at (bytes " |" ++ values (now (s .entry)) ++ newline) (now (buf .exit)) r × (r ≤ at + 1500) ⌝ }
+    ensures { λ r. ⌜ Put (now (buf .entry)) at (bytes " |" ++ valuesText (now (s .entry)) ++ newline) (now (buf .exit)) r × (r ≤ at + 1500) ⌝ }
 {
     let p = node_text::put_bytes(b" |", buf, at);
     let q = put_values(s, buf, p);
@@ -126,7 +126,7 @@ pub fn put_line(
     at: usize,
 ) -> usize
     requires { ⌜ Stands (now b) z (now places) h × Seen (now b) (m .work) × Measured (now b) (now lengths) × (length (now s) ≤ 64) × (at + 10000 ≤ length (now buf)) ⌝ }
-    ensures { λ r. ⌜ Put (now (buf .entry)) at (moment (m .steps) (nameOf (m .rule)) (meaning (now (b .entry)) (pendingOf (now (places .entry)) h) m) (now (s .entry))) (now (buf .exit)) r × (r ≤ at + 10000) ⌝ }
+    ensures { λ r. ⌜ Put (now (buf .entry)) at (momentLine (m .steps) (nameOf (m .rule)) (meaning (now (b .entry)) (pendingOf (now (places .entry)) h) m) (now (s .entry))) (now (buf .exit)) r × (r ≤ at + 10000) ⌝ }
 {
     let x = m.work;
     let p = put_head(m.steps, m.rule, buf, at);
@@ -158,7 +158,7 @@ fn put_outcome(ending: Ending, buf: &mut [u8], at: usize) -> usize
 
 fn put_counts(steps: u64, loops: u64, buf: &mut [u8], at: usize) -> usize
     requires { ⌜ at + 60 ≤ length (now buf) ⌝ }
-    ensures { λ r. ⌜ Put (now (buf .entry)) at (counts steps loops) (now (buf .exit)) r × (r ≤ at + 60) ⌝ }
+    ensures { λ r. ⌜ Put (now (buf .entry)) at (countsText steps loops) (now (buf .exit)) r × (r ≤ at + 60) ⌝ }
 {
     let p = node_text::put_bytes(b" steps ", buf, at);
     let q = node_text::put_decimal(steps, buf, p);

@@ -4,7 +4,7 @@ use native.Mathlib.Omega.{arith}
 use Prim.Native.Nat.{ℕ, _+_, _-_, _≤_, _<_}
 use mathlib.Core.Path.{_≡_, refl}
 use lib.ListN.{length, length-set}
-use Rattle.stored.specs.Layout.{start, TreeAt}
+use Rattle.stored.specs.Layout.{nodeStart, TreeAt}
 use Rattle.stored.specs.Reader.{treeAt}
 use Rattle.routine.specs.Masks.{Covers}
 use Rattle.opener.proofs.NodeTrees.{WordOf}
@@ -29,7 +29,7 @@ low h l j k = h .before .before .before .pre .4 j (omega arith)
 breaks : tie.Need-returns Inv-loop μ-loop
 breaks c =
     let h = at-node (c .before) in
-    let byte = h .before .before .shared-slice-known .given (start (h .loop .i) + 1) in (
+    let byte = h .before .before .shared-slice-known .given (nodeStart (h .loop .i) + 1) in (
       omega arith,
       (λ j l. h .loop .inv .2 j l .stands),
       next-breaks _ (h .loop .words) (h .loop .i) _ (h .loop .inv .2) (low h (omega arith)) _ (omega arith) (c .before .word-at .ensures) (c .if1 .taken),

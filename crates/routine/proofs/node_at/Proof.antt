@@ -8,13 +8,13 @@ use borrow.Author.Needs.{needs}
 use mir.Syntax.{w32}
 use mir.ValLaws.{toZ-ofZ}
 use Rattle.stored.specs.Bytes.{pair, signed}
-use Rattle.stored.specs.Layout.{start, child2, child3}
+use Rattle.stored.specs.Layout.{nodeStart, child2, child3}
 use Rattle.stored.specs.Trace.{four}
 use Rattle.routine.proofs.node_at.Statement.{statement}
 use Rattle.routine.proofs.node_at.Tie as tie
 
 -- bytes 4-7 as one number
-in-halves : (b : List ℕ) (i : ℕ) → four b (start i + 4) ≡ child2 b i * 65536 + child3 b i
+in-halves : (b : List ℕ) (i : ℕ) → four b (nodeStart i + 4) ≡ child2 b i * 65536 + child3 b i
 in-halves b i = ap (λ (k : ℕ). child2 b i * 65536 + pair b k) (omega arith)
 
 pub node-at-spec : {M : Type 1} → statement M

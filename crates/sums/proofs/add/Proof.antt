@@ -6,7 +6,7 @@ use lib.Signed.{ltZ}
 use mir.Syntax.{w32}
 use mir.Val.{SFits, toZ, ofZ}
 use mir.Facts.{toZ-ofZ, sfits-widen}
-use Rattle.l1.specs.Range.{lowest, highest}
+use Rattle.l1.specs.Range.{int-min, int-max}
 use Rattle.sums.specs.Sum.{sumOf}
 use Rattle.sums.specs.declared.Sum.the-variants.{In, Out}
 use Rattle.sums.proofs.Widened.{widened, sum-fits, computed, computed-sum, sum-below, sum-above, between, sum-between}
@@ -15,13 +15,13 @@ use Rattle.sums.proofs.add.Tie as tie
 
 -- the sum of the two arguments, as the code has it and as it is
 module _ (a b : ℤ) (f : SFits w32 a) (g : SFits w32 b) where
-  is-below : ltZ (computed a b) lowest ≡ true → Out ≡ sumOf a b
+  is-below : ltZ (computed a b) int-min ≡ true → Out ≡ sumOf a b
   is-below e = sum-below a b (rw (computed-sum a b f g) at e)
 
-  is-above : ltZ highest (computed a b) ≡ true → Out ≡ sumOf a b
+  is-above : ltZ int-max (computed a b) ≡ true → Out ≡ sumOf a b
   is-above e = sum-above a b (rw (computed-sum a b f g) at e)
 
-  module _ (l : ltZ (computed a b) lowest ≡ false) (h : ltZ highest (computed a b) ≡ false) where
+  module _ (l : ltZ (computed a b) int-min ≡ false) (h : ltZ int-max (computed a b) ≡ false) where
     sum-32 : SFits w32 (a +ℤ b)
     sum-32 = between (a +ℤ b) (rw (computed-sum a b f g) at l) (rw (computed-sum a b f g) at h)
 

@@ -6,7 +6,7 @@ use mathlib.Core.List.{List, [], _∷_}
 use denote.Ref.{now}
 use borrow.Author.Needs.{needs}
 use Rattle.stored.specs.Refusals.{count}
-use Rattle.stored.specs.Trace.{moment}
+use Rattle.stored.specs.Trace.{momentLine}
 use Rattle.routine.proofs.Standing.{is-headed}
 use Rattle.machine.specs.Moment.{meaning, Moment}
 use Rattle.machine.specs.declared.state.Pending.{Pending}
@@ -37,7 +37,7 @@ first c = let s = entry c in first-moment (s .pre .0) (s .pre .1) (root-is s) (r
 abbrev line : tie.After-start → List ℕ
 line c =
     let m = c .start .result in
-    moment (m .steps) (nameOf (m .rule)) (meaning (now (entry c .args .b)) (places (entry c)) m) (now (entry c .args .s))
+    momentLine (m .steps) (nameOf (m .rule)) (meaning (now (entry c .args .b)) (places (entry c)) m) (now (entry c .args .s))
 
 told : (c : tie.After-start)
     → LinesAt (now (entry c .args .b)) (now (entry c .args .s)) (line c ∷ []) (places (entry c)) (c .start .result) (now (entry c .args .s))

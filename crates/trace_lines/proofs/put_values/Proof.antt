@@ -9,7 +9,7 @@ use mir.Syntax.{w32}
 use mir.Val.{SFits}
 use mir.Facts.{toZ-ofZ}
 use borrow.Author.Needs.{needs}
-use Rattle.stored.specs.Trace.{values}
+use Rattle.stored.specs.Trace.{valuesText}
 use Rattle.node_text.specs.Put.{Put}
 use Rattle.node_text.proofs.PutLaws.{put-none, put-more, kept, room-left}
 use Rattle.node_text.proofs.NumberLengths.{few-bytes}
@@ -18,7 +18,7 @@ use Rattle.trace_lines.proofs.put_values.Statement.{statement}
 use Rattle.trace_lines.proofs.put_values.Tie as tie
 
 abbrev Inv-loop : tie.InvT-loop
-Inv-loop s buf₀ at p₀ i₀ buf p i = (i ≤ length s) × Put buf₀ at (values (take i s)) buf p × (p ≤ at + 22 * i)
+Inv-loop s buf₀ at p₀ i₀ buf p i = (i ≤ length s) × Put buf₀ at (valuesText (take i s)) buf p × (p ≤ at + 22 * i)
 
 abbrev μ-loop : tie.MeasureT-loop
 μ-loop s buf₀ at p₀ i₀ buf p i = length s - i

@@ -42,7 +42,7 @@ use denote.Triple.Table.{entered, cited}
 use denote.Triple.Walked.{says, needs, Stays, stay-none, walkOf, goes-none, Walks, ends-at, walked, walk-meets}
 use denote.Exit.{yes}
 use denote.Triple.Clauses.{ensured, lasts}
-use Rattle.stored.specs.Layout.{start}
+use Rattle.stored.specs.Layout.{nodeStart}
 use Rattle.routine.specs.Forms.{nodeOf}
 use Rattle.routine.specs.declared.Routine.{Routine as View}
 use Rattle.routine.specs.declared.Node.{Node}
@@ -73,7 +73,7 @@ module _ {M : Type 1} (𝓤 : URA M) (H : Heap 𝓤) (A : Atoms 𝓤) (mem : Mem
   Callee = tripleOf 𝓤 H A callee.signature (callee.spec 𝓤 H A mem run)
 
 module _ {M : Type 1} (𝓤 : URA M) (H : Heap 𝓤) (A : Atoms 𝓤) (W : Given 𝓤 H A) (mem : Memory → SProp 𝓤) (run : Routine → Fun 𝓤) (κ : Lft)
-    (q : Share) (d : View) (i : ℕ) (if : i < 2 ^ 64) (ok : start (i + 1) ≤ length (now (d .bytes))) where
+    (q : Share) (d : View) (i : ℕ) (if : i < 2 ^ 64) (ok : nodeStart (i + 1) ≤ length (now (d .bytes))) where
   abbrev mach : Val
   mach = T′.lowered d
 
