@@ -23,12 +23,12 @@ use Rattle.checker.specs.Says.{TypedSays}
 use Rattle.checker.specs.Admits.{lentOf, sufficesOf, lackingOf, Admits}
 
 module _ (b : List ℕ) {m : ℕ} (declared : m ≡ locations b) where
-  lent-passes : (lent : Lent) → sufficesOf lent m ≡ true → Passes (lentOf b lent)
+  pub lent-passes : (lent : Lent) → sufficesOf lent m ≡ true → Passes (lentOf b lent)
   lent-passes Nothing e = passes-nothing
   lent-passes (Store entries) e = passes-more (when-silent (λ l. omega (arith, leb-true m entries e))) passes-nothing
   lent-passes (Input after) e = passes-more (when-silent (λ n. n (omega (arith, eqb-true after (4 + 4 * m) e)))) passes-nothing
 
-  lent-lacks : (lent : Lent) → sufficesOf lent m ≡ false → First (lentOf b lent) (refusalOf (lackingOf lent))
+  pub lent-lacks : (lent : Lent) → sufficesOf lent m ≡ false → First (lentOf b lent) (refusalOf (lackingOf lent))
   lent-lacks Nothing e = absurd (let z : _≡_ {A = ℕ} 0 1 = cc in omega arith)
   lent-lacks (Store entries) e = first-here (given (omega (arith, leb-false m entries e)))
   lent-lacks (Input after) e = first-here (given (λ q. eqb-false after (4 + 4 * m) e (omega arith)))

@@ -5,3 +5,4 @@ pub mod Counting  -- what a node adds to W and the two sets
 pub mod Judged  -- the type check and the tally give the check's answer
 pub mod Admitting  -- what the admission answers of a routine that was opened
 pub mod OneAnswer  -- the contract of the check leaves one answer
+pub mod EveryRow  -- every row is answered: the check and the run have an answer

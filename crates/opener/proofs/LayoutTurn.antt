@@ -1,5 +1,5 @@
 -- A turn of the layout's loop: what is known of the nodes passed, of the next one, and at the end.
-use Prim.Native.Nat.{ℕ, _+_, _-_, _/_, _%_, _<_}
+use Prim.Native.Nat.{ℕ, _+_, _-_, _/_, _%_, _<_, min}
 use native.Mathlib.Omega.{arith}
 use mathlib.Core.Path.{_≡_, refl, sym}
 use mathlib.Core.Bool.{Bool, true, false}
@@ -38,7 +38,7 @@ module _ (b words : List ℕ) (i mask : ℕ) (past : (j : ℕ) → j < i → Pas
     where
       go : (t : Bool) → keeps ≡ t → TreeAt b i (treeAt b i) × WordOf i (treeAt b i) k × (k < 4294967296)
       go true h =
-          let t = keeps-stands b (λ j l. past j l .stands) (under mask words) table h in
+          let t = keeps-stands b (λ j l. past j l .stands) (under mask words) table (arg b i) (omega arith) h in
           let w : WordOf i (treeAt b i) k = rw (rw h at e) (word-by b _ table (omega arith) t) in
           (t, w, omega (arith, w .low, w .deep, depth-within-size (treeAt b i)))
       go false h = absurd (some (rw h at e))
@@ -46,7 +46,8 @@ module _ (b words : List ℕ) (i mask : ℕ) (past : (j : ℕ) → j < i → Pas
   pub next-breaks : (k : ℕ) → arg b i < 256 → k ≡ wordAt b i (under mask words) → k ≡ 0 → (e : Expr) → ¬ TreeAt b i e
   unfolding wordAt keeps
   next-breaks k a h none e t =
-      let kept : keeps ≡ true = stands-keeps b (under mask words) table a t in
+      let small : min (arg b i) 255 ≡ arg b i = omega arith in
+      let kept : keeps ≡ true = rw small at (stands-keeps b (under mask words) table t) in
       omega (arith, rw kept at h)
 
   pub next-passed : (k : ℕ) → i < length words → TreeAt b i (treeAt b i) → WordOf i (treeAt b i) k

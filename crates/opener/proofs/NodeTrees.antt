@@ -1,6 +1,6 @@
 -- A node keeps the layout exactly where a tree stands at it, trees standing at the nodes before it; and the tree's word comes from those of its
 -- children, which a table of the nodes before it holds.
-use Prim.Native.Nat.{ℕ, zero, suc, _+_, _*_, _/_, _%_, _≤_, _<_, max}
+use Prim.Native.Nat.{ℕ, zero, suc, _+_, _*_, _/_, _%_, _≤_, _<_, min, max}
 use native.Mathlib.Omega.{arith}
 use mathlib.Core.Path.{_≡_, refl}
 use mathlib.Core.Bool.{Bool, true, false, _&&_, cond}
@@ -15,8 +15,8 @@ use Rattle.stored.specs.Layout.{kind, arg, child1, child2, child3, NodeIs, Tree
 use Rattle.stored.specs.Layout.{at-int, at-bool, at-op, at-if, at-assign, at-deref, at-skip, at-seq, at-while}
 use Rattle.stored.specs.Reader.{treeAt, StandBelow}
 use Rattle.stored.proofs.Reader.{read-tree}
-use Rattle.routine.specs.Forms.{formOf, nodeOf}
-use Rattle.opener.specs.Shapes.{Shape, Leaf, Number, One, Two, Three, Nothing, shapeOf, argTop, placed, keepsNode, wordBy}
+use Rattle.routine.specs.Forms.{formOf}
+use Rattle.opener.specs.Shapes.{Shape, Leaf, Number, One, Two, Three, Nothing, shapeOf, argTop, placed, wordBy}
 
 pub both : (a b : Bool) → a && b ≡ true → (a ≡ true) × (b ≡ true)
 both true b e = (refl, e)
@@ -60,6 +60,12 @@ pub record WordOf (j : ℕ) (e : Expr) (w : ℕ) : Type 0 where
 -- s is a table of the words of the trees at the nodes before i
 abbrev pub WordsOf : List ℕ → ℕ → (ℕ → ℕ) → Type 0
 WordsOf b i s = (j : ℕ) → j < i → WordOf j (treeAt b j) (s j)
+
+-- `keepsNode` of node i, with a for its byte 1
+abbrev pub keepsBy : List ℕ → ℕ → (ℕ → ℕ) → ℕ → Bool
+keepsBy b i s a =
+    placed (shapeOf (formOf (kind b i))) i (child1 b i) (child2 b i) (child3 b i) (s (child2 b i) % 65536) (s (child3 b i) % 65536)
+    && leb a (argTop (formOf (kind b i)))
 
 some-depth : (e : Expr) → 1 ≤ depth e
 some-depth (int n) = omega arith
@@ -140,27 +146,26 @@ module _ (b : List ℕ) (s : ℕ → ℕ) {i : ℕ} (h : WordsOf b i s) where
       → eqb (y + 1) i && eqb (x + 1) (s y % 65536) && true && true ≡ true
   two-kept x p q t = rw (eq-eqb _ _ p, eq-eqb _ _ (before x (omega arith) q t))
 
-  -- where a tree stands the node keeps the layout; byte 1 is a byte
-  pub stands-keeps : {e : Expr} → arg b i < 256 → TreeAt b i e
-      → keepsNode (nodeOf b i) i (s (child2 b i) % 65536) (s (child3 b i) % 65536) ≡ true
-  stands-keeps a (at-int n v) = rw (n .its-kind, n .its-arg, n .its-first)
-  stands-keeps a (at-bool {t = true} n) = rw (n .its-kind, n .its-arg, n .its-first, n .its-second, n .its-third)
-  stands-keeps a (at-bool {t = false} n) = rw (n .its-kind, n .its-arg, n .its-first, n .its-second, n .its-third)
-  stands-keeps a (at-op {o = plus} {x = x} n p q t₁ t₂) =
+  -- where a tree stands the node keeps the layout, a byte 1 past 255 being taken for 255
+  pub stands-keeps : {e : Expr} → TreeAt b i e → keepsBy b i s (min (arg b i) 255) ≡ true
+  stands-keeps (at-int n v) = rw (n .its-kind, n .its-arg, n .its-first)
+  stands-keeps (at-bool {t = true} n) = rw (n .its-kind, n .its-arg, n .its-first, n .its-second, n .its-third)
+  stands-keeps (at-bool {t = false} n) = rw (n .its-kind, n .its-arg, n .its-first, n .its-second, n .its-third)
+  stands-keeps (at-op {o = plus} {x = x} n p q t₁ t₂) =
       rw (n .its-kind, n .its-arg, n .its-first, n .its-second, n .its-third) (two-kept x p q t₂)
-  stands-keeps a (at-op {o = geq} {x = x} n p q t₁ t₂) =
+  stands-keeps (at-op {o = geq} {x = x} n p q t₁ t₂) =
       rw (n .its-kind, n .its-arg, n .its-first, n .its-second, n .its-third) (two-kept x p q t₂)
-  stands-keeps a (at-if {x = x} {y = y} n p q r t₁ t₂ t₃) =
+  stands-keeps (at-if {x = x} {y = y} n p q r t₁ t₂ t₃) =
       rw (n .its-kind, n .its-arg, n .its-first, n .its-second, n .its-third)
       (rw (eq-eqb _ _ p, eq-eqb _ _ (before y (omega arith) q t₃), eq-eqb _ _ (before x (omega arith) r t₂)))
-  stands-keeps a (at-assign n p t) =
-      rw (n .its-kind, n .its-first, n .its-second, n .its-third, le-leb (arg b i) 255 (omega arith), eq-eqb _ _ p)
-  stands-keeps a (at-deref n) =
-      rw (n .its-kind, n .its-first, n .its-second, n .its-third, le-leb (arg b i) 255 (omega arith))
-  stands-keeps a (at-skip n) = rw (n .its-kind, n .its-arg, n .its-first, n .its-second, n .its-third)
-  stands-keeps a (at-seq {x = x} n p q t₁ t₂) =
+  stands-keeps (at-assign n p t) =
+      rw (n .its-kind, n .its-first, n .its-second, n .its-third, le-leb (min (arg b i) 255) 255 (omega arith), eq-eqb _ _ p)
+  stands-keeps (at-deref n) =
+      rw (n .its-kind, n .its-first, n .its-second, n .its-third, le-leb (min (arg b i) 255) 255 (omega arith))
+  stands-keeps (at-skip n) = rw (n .its-kind, n .its-arg, n .its-first, n .its-second, n .its-third)
+  stands-keeps (at-seq {x = x} n p q t₁ t₂) =
       rw (n .its-kind, n .its-arg, n .its-first, n .its-second, n .its-third) (two-kept x p q t₂)
-  stands-keeps a (at-while {x = x} n p q t₁ t₂) =
+  stands-keeps (at-while {x = x} n p q t₁ t₂) =
       rw (n .its-kind, n .its-arg, n .its-first, n .its-second, n .its-third) (two-kept x p q t₂)
 
 -- a node that keeps the layout, by its kind
@@ -168,7 +173,7 @@ module _ (b : List ℕ) {i : ℕ} (below : StandBelow b i) (s : ℕ → ℕ) (h 
   standing : {e : Expr} → TreeAt b i e → TreeAt b i (treeAt b i)
   standing t = rw (read-tree b (i + 1) t (omega arith)) t
 
-  two-stand : {k : ℕ} {e : Expr} → kind b i ≡ k → arg b i ≤ 0
+  two-stand : {k : ℕ} {e : Expr} → kind b i ≡ k → min (arg b i) 255 ≤ 0
       → Placed Two i (child1 b i) (child2 b i) (child3 b i) (s (child2 b i) % 65536) (s (child3 b i) % 65536)
       → (NodeIs b i k 0 (child1 b i) (child2 b i) 0
       → child2 b i + 1 ≡ i → child1 b i + size (treeAt b (child2 b i)) ≡ child2 b i
@@ -182,7 +187,7 @@ module _ (b : List ℕ) {i : ℕ} (below : StandBelow b i) (s : ℕ → ℕ) (h 
       (p .0) (omega arith)
       (below (child1 b i) (omega arith)) (below (child2 b i) (omega arith)))
 
-  by-kind : (k : ℕ) → kind b i ≡ k → arg b i ≤ argTop (formOf k)
+  by-kind : (k : ℕ) → kind b i ≡ k → min (arg b i) 255 ≤ argTop (formOf k)
       → Placed (shapeOf (formOf k)) i (child1 b i) (child2 b i) (child3 b i) (s (child2 b i) % 65536) (s (child3 b i) % 65536)
       → TreeAt b i (treeAt b i)
   by-kind zero k a p =
@@ -190,7 +195,7 @@ module _ (b : List ℕ) {i : ℕ} (below : StandBelow b i) (s : ℕ → ℕ) (h 
   by-kind (suc zero) k a p =
       standing
       (at-bool {t = eqb (arg b i) 1}
-      (record { its-kind = k; its-arg = bit (arg b i) a; its-first = p .0; its-second = p .1; its-third = p .2 }))
+      (record { its-kind = k; its-arg = bit (arg b i) (omega arith); its-first = p .0; its-second = p .1; its-third = p .2 }))
   by-kind (suc (suc zero)) k a p = two-stand k a p (at-op {o = plus})
   by-kind (suc (suc (suc zero))) k a p = two-stand k a p (at-op {o = geq})
   by-kind (suc (suc (suc (suc zero)))) k a p =
@@ -213,9 +218,9 @@ module _ (b : List ℕ) {i : ℕ} (below : StandBelow b i) (s : ℕ → ℕ) (h 
   by-kind (suc (suc (suc (suc (suc (suc (suc (suc (suc (suc m)))))))))) k a p = absurd p
 
   -- where the node keeps the layout a tree stands
-  pub keeps-stands : keepsNode (nodeOf b i) i (s (child2 b i) % 65536) (s (child3 b i) % 65536) ≡ true → TreeAt b i (treeAt b i)
-  keeps-stands e =
+  pub keeps-stands : (a : ℕ) → min (arg b i) 255 ≤ a → keepsBy b i s a ≡ true → TreeAt b i (treeAt b i)
+  keeps-stands a l e =
       let F = formOf (kind b i) in
-      let c = both (placed (shapeOf F) i (child1 b i) (child2 b i) (child3 b i) (s (child2 b i) % 65536) (s (child3 b i) % 65536)) (leb (arg b i) (argTop F)) e in
-      by-kind (kind b i) refl (leb-true (arg b i) (argTop F) (c .1))
+      let c = both (placed (shapeOf F) i (child1 b i) (child2 b i) (child3 b i) (s (child2 b i) % 65536) (s (child3 b i) % 65536)) (leb a (argTop F)) e in
+      by-kind (kind b i) refl (omega (arith, leb-true a (argTop F) (c .1)))
       (placed-true (shapeOf F) i (child1 b i) (child2 b i) (child3 b i) (s (child2 b i) % 65536) (s (child3 b i) % 65536) (c .0))

@@ -52,7 +52,7 @@ module _ {b : List ℕ} (ok : Runnable b) {s : Store} (c : locations b ≤ lengt
         (passes-more (at-silent (λ n (x, m). omega (arith, one-length b x (its-length ok y)))) passes-nothing)))
         (ok .holds) y
 
-  shown-whole : {a : Wrote} {buffer′ : List ℕ} → Shows b s k buffer a buffer′ → Writes b s k buffer a buffer′
+  pub shown-whole : {a : Wrote} {buffer′ : List ℕ} → Shows b s k buffer a buffer′ → Writes b s k buffer a buffer′
   shown-whole (too-long y l) = long-refused y l
   shown-whole (in-room y l) = fits-written y l
 
