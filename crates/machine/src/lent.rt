@@ -148,25 +148,22 @@ pub fn go_to(
     b: &[u8],
     z: Sizes,
     places: &mut [u32],
-    height: usize,
-    machine: Machine,
+    mut height: usize,
+    mut machine: Machine,
     s: &mut [i32],
     limit: u64,
 ) -> Stand
     requires { ⌜ (limit < 4294967296) × (machine .steps ≤ limit) × ((s₀ : Store) × Moment (now b) s₀ (now s) (pendingOf (now places) height) machine) × SizesOf (now b) z ⌝ }
     ensures { λ r. ⌜ ((s₀ : Store) → Moment (now (b .entry)) s₀ (now (s .entry)) (pendingOf (now (places .entry)) height) machine → Moment (now (b .entry)) s₀ (now (s .exit)) (pendingOf (now (places .exit)) (r .height)) (r .machine) × Yields limit (rootOf (now (b .entry))) s₀ (answer (outcomeOf (r .ending)) (r .machine .steps) (r .machine .loops) (meaning (now (b .entry)) (pendingOf (now (places .exit)) (r .height)) (r .machine)) (now (s .exit)))) ⌝ }
 {
-    let mut h = height;
-    let mut m = machine;
     let out = loop {
-        let x = m.work;
+        let x = machine.work;
         let take = takes(x);
-        if h < take {
+        if height < take {
             break end_of(x);
         }
-        let at = h - take;
-        let place = place_at(places, at);
-        let next = m.step(place, b, z, s);
+        let at = height - take;
+        let next = machine.step(place_at(places, at), b, z, s);
         let act = next.act;
         if is_over(act) {
             break Ending::Overflow(over_at(act));
@@ -178,12 +175,12 @@ pub fn go_to(
         write(act, s);
         let top = next.top;
         put_place(places, at, top);
-        h = at + grows(act);
-        m = to;
+        height = at + grows(act);
+        machine = to;
     };
     Stand {
         ending: out,
-        height: h,
-        machine: m,
+        height,
+        machine,
     }
 }

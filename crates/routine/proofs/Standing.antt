@@ -49,6 +49,9 @@ module _ {b : List ℕ} (o : Opens b) (h : Holds b (rootOf b)) where
 pub node-bytes : {b : List ℕ} {z : Sizes} {i : ℕ} → IsOpen b z → i < z .nodes → nodeStart (i + 1) ≤ length b
 node-bytes o h = omega (arith, o .sizes .0, is-headed (o .opens) (o .holds) .all-bytes)
 
+pub is-open : {b : List ℕ} {z : Sizes} → Runnable b → SizesOf b z → IsOpen b z
+is-open ok sizes = record { sizes = sizes; opens = ok .opens; holds = ok .holds }
+
 -- what the reading of node i asks, of a routine that may be run
 pub may-read : {b : List ℕ} {z : Sizes} {i : ℕ} → Runnable b → SizesOf b z → i < count b → IsOpen b z × (i < z .nodes)
-may-read ok sizes h = (record { sizes = sizes; opens = ok .opens; holds = ok .holds }, omega (arith, sizes .0))
+may-read ok sizes h = (is-open ok sizes, omega (arith, sizes .0))

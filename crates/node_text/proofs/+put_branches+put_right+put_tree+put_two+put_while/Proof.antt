@@ -3,7 +3,6 @@
 use Prim.Native.Nat.{ℕ, _+_, _*_, _<_, max}
 use native.Mathlib.Omega.{arith}
 use mathlib.Core.Path.{_≡_, refl, sym, _∙_, ap}
-use mathlib.Core.List.{_++_}
 use lib.ListN.{length, length-append}
 use mir.Syntax.{w32}
 use mir.Facts.{toZ-ofZ}
@@ -11,10 +10,12 @@ use denote.Ref.{now}
 use borrow.Author.Needs.{needs}
 use borrow.Fn.Kinds.{In}
 use borrow.Fn.PlainCycle.{Measures, is, falls, and}
-use Rattle.l1.specs.Text.{bytes, location, text}
+use Rattle.l1.specs.Text.{bytes, text}
+use Rattle.stored.specs.Reader.{treeAt}
+use Rattle.routine.specs.Forms.{make}
 use Rattle.routine.specs.declared.Form.{Form}
-use Rattle.node_text.specs.Texts.{formAt, textAt, signText, branches}
-use Rattle.node_text.proofs.PutLaws.{put-more, kept, room-first, room-rest}
+use Rattle.node_text.specs.Texts.{formAt, textAt}
+use Rattle.node_text.proofs.PutLaws.{put-more, kept, room-rest}
 use Rattle.node_text.proofs.TextForms.{form-text, children, two-children, assign-text, two-text, while-text, if-text}
 use Rattle.node_text.proofs.put_branches.Reads as put-branches
 use Rattle.node_text.proofs.put_branches.Kinds as put-branches-kinds
@@ -303,76 +304,73 @@ module _ (t : ℕ) where
     put-while.Post,
   )
 
-  form : (g : put-tree-lts.After-form-at tree-claims (put-tree-at t) put-tree.Post) {F : Form} → g .form-at .result ≡ F
-      → formAt (now (g .before .before .before .args .b)) (g .before .before .before .args .i) ≡ F
+  -- from where the form is found back to the entry; the node by the form that is found
+  abbrev Found : Type 0
+  Found = put-tree-lts.After-form-at tree-claims (put-tree-at t) put-tree.Post
+
+  abbrev entry : Found → put-tree-lts.Start tree-claims (put-tree-at t) put-tree.Post
+  entry g = g .before .before .before
+
+  form : (g : Found) {F : Form} → g .form-at .result ≡ F → formAt (now (entry g .args .b)) (entry g .args .i) ≡ F
   form g found = sym (g .form-at .ensures) ∙ found
+
+  whole : (g : Found) {F : Form} → g .form-at .result ≡ F → textAt (now (entry g .args .b)) (entry g .args .i) ≡ text (make F (now (entry g .args .b)) (entry g .args .i) (treeAt (now (entry g .args .b))))
+  whole g found = form-text (entry g .pre .1 .0) (entry g .pre .1 .1) (form g found)
 
   integer-room : put-tree-lts.Need-put-number-requires tree-claims (put-tree-at t) put-tree.Post
   unfolding text
   integer-room c κs =
-      let a = c .before in let k = a .before in let g = k .before .before in let (m, (o, h, room)) = g .before .before .before .pre in
-      let e = form g (k .enum-told .given .1) in
-      rw (toZ-ofZ {w = w32} (record { sfits = a .integer-at .ok }) ∙ a .integer-at .ensures) (rw (form-text o h e) at room)
+      let a = c .before in let k = a .before in let g = k .before .before in
+      rw (toZ-ofZ {w = w32} (record { sfits = a .integer-at .ok }) ∙ a .integer-at .ensures) (rw (whole g (k .enum-told .given .1)) at (entry g .pre .1 .2))
 
   integer : put-tree-lts.Need-returns tree-claims (put-tree-at t) put-tree.Post
   unfolding text
   integer c =
-      let p = c .before .before in let a = p .before .before in let k = a .before in let g = k .before .before in
-      let (m, (o, h, room)) = g .before .before .before .pre in let e = form g (k .enum-told .given .1) in
-      rw (form-text o h e) (rw (toZ-ofZ {w = w32} (record { sfits = a .integer-at .ok }) ∙ a .integer-at .ensures) at (p .put-number .ensures))
+      let p = c .before .before in let a = p .before .before in let k = a .before in
+      rw (whole (k .before .before) (k .enum-told .given .1)) (rw (toZ-ofZ {w = w32} (record { sfits = a .integer-at .ok }) ∙ a .integer-at .ensures) at (p .put-number .ensures))
 
   boolean-room : put-tree-lts.Need-put-truth-requires tree-claims (put-tree-at t) put-tree.Post
   unfolding text
   boolean-room c κs =
-      let a = c .before in let k = a .before in let g = k .before .before in let (m, (o, h, room)) = g .before .before .before .pre in
-      let e = form g (k .enum-told2 .given .1) in
-      rw (a .arg-at .ensures) (rw (form-text o h e) at room)
+      let a = c .before in let k = a .before in let g = k .before .before in
+      rw (a .arg-at .ensures) (rw (whole g (k .enum-told2 .given .1)) at (entry g .pre .1 .2))
 
   boolean : put-tree-lts.Need-returns-2 tree-claims (put-tree-at t) put-tree.Post
   unfolding text
   boolean c =
-      let p = c .before .before in let a = p .before .before in let k = a .before in let g = k .before .before in
-      let (m, (o, h, room)) = g .before .before .before .pre in let e = form g (k .enum-told2 .given .1) in
-      rw (form-text o h e) (rw (a .arg-at .ensures) at (p .put-truth .ensures))
+      let p = c .before .before in let a = p .before .before in let k = a .before in
+      rw (whole (k .before .before) (k .enum-told2 .given .1)) (rw (a .arg-at .ensures) at (p .put-truth .ensures))
 
   deref-room : put-tree-lts.Need-put-deref-requires tree-claims (put-tree-at t) put-tree.Post
   unfolding text
   deref-room c κs =
-      let a = c .before in let k = a .before in let g = k .before .before in let (m, (o, h, room)) = g .before .before .before .pre in
-      let e = form g (k .enum-told7 .given .1) in
-      rw (a .arg-at3 .ensures) (rw (form-text o h e) at room)
+      let a = c .before in let k = a .before in let g = k .before .before in
+      rw (a .arg-at3 .ensures) (rw (whole g (k .enum-told7 .given .1)) at (entry g .pre .1 .2))
 
   deref : put-tree-lts.Need-returns-7 tree-claims (put-tree-at t) put-tree.Post
   unfolding text
   deref c =
-      let p = c .before .before in let a = p .before .before in let k = a .before in let g = k .before .before in
-      let (m, (o, h, room)) = g .before .before .before .pre in let e = form g (k .enum-told7 .given .1) in
-      rw (form-text o h e) (rw (a .arg-at3 .ensures) at (p .put-deref .ensures))
+      let p = c .before .before in let a = p .before .before in let k = a .before in
+      rw (whole (k .before .before) (k .enum-told7 .given .1)) (rw (a .arg-at3 .ensures) at (p .put-deref .ensures))
 
   skip-room : put-tree-lts.Need-put-bytes-requires-2 tree-claims (put-tree-at t) put-tree.Post
   unfolding text
-  skip-room c κs =
-      let k = c .before .before in let g = k .before .before in let (m, (o, h, room)) = g .before .before .before .pre in
-      let e = form g (k .enum-told8 .given .1) in
-      rw (form-text o h e) at room
+  skip-room c κs = let k = c .before .before in let g = k .before .before in rw (whole g (k .enum-told8 .given .1)) at (entry g .pre .1 .2)
 
   skip : put-tree-lts.Need-returns-8 tree-claims (put-tree-at t) put-tree.Post
   unfolding text
-  skip c =
-      let p = c .before .before in let k = p .before .before .before in let g = k .before .before in
-      let (m, (o, h, room)) = g .before .before .before .pre in let e = form g (k .enum-told8 .given .1) in
-      rw (form-text o h e) (p .put-bytes2 .ensures)
+  skip c = let p = c .before .before in let k = p .before .before .before in rw (whole (k .before .before) (k .enum-told8 .given .1)) (p .put-bytes2 .ensures)
 
   if-word : put-tree-lts.Need-put-bytes-requires tree-claims (put-tree-at t) put-tree.Post
   if-word c κs =
-      let k = c .before .before in let g = k .before .before in let (m, (o, h, room)) = g .before .before .before .pre in
+      let k = c .before .before in let g = k .before .before in let (m, (o, h, room)) = entry g .pre in
       let e = form g (k .enum-told5 .given .1) in
       omega (arith, simp length-append at (ap length (if-text o h refl refl refl e)))
 
   if-test : put-tree-lts.Need-put-tree-requires tree-claims (put-tree-at t) put-tree.Post
   if-test c κs =
       let x = c .before in let w = x .before .before .before in let k = w .before .before .before in let g = k .before .before in
-      let (m, (o, h, room)) = g .before .before .before .pre in let e = form g (k .enum-told5 .given .1) in let p = x .first-at .ensures in
+      let (m, (o, h, room)) = entry g .pre in let e = form g (k .enum-told5 .given .1) in let p = x .first-at .ensures in
       let j = children o h e in let l = simp length-append at (ap length (if-text o h p refl refl e)) in
       (omega arith, (o, omega arith, omega (arith, kept (w .put-bytes .ensures))))
 
@@ -380,7 +378,7 @@ module _ (t : ℕ) where
   if-branches c κs =
       let n = c .before in let y = n .before in let v = y .before .before .before in let x = v .before .before in
       let w = x .before .before .before in let k = w .before .before .before in let g = k .before .before in
-      let (m, (o, h, room)) = g .before .before .before .pre in let e = form g (k .enum-told5 .given .1) in
+      let (m, (o, h, room)) = entry g .pre in let e = form g (k .enum-told5 .given .1) in
       let j = children o h e in let q = y .second-at .ensures in let r = n .third-at .ensures in
       let d = put-more (w .put-bytes .ensures) (v .put-tree .ensures) in
       (omega arith, (o, omega arith, omega arith, room-rest _ d (rw (if-text o h (x .first-at .ensures) q r e) at room)))
@@ -389,13 +387,13 @@ module _ (t : ℕ) where
   if-all c =
       let u = c .before .before in let n = u .before .before in let y = n .before in let v = y .before .before .before in
       let x = v .before .before in let w = x .before .before .before in let k = w .before .before .before in let g = k .before .before in
-      let (m, (o, h, room)) = g .before .before .before .pre in let e = form g (k .enum-told5 .given .1) in
+      let (m, (o, h, room)) = entry g .pre in let e = form g (k .enum-told5 .given .1) in
       rw (if-text o h (x .first-at .ensures) (y .second-at .ensures) (n .third-at .ensures) e)
       (put-more (put-more (w .put-bytes .ensures) (v .put-tree .ensures)) (u .put-branches .ensures))
 
   assign-location : put-tree-lts.Need-put-assigned-requires tree-claims (put-tree-at t) put-tree.Post
   assign-location c κs =
-      let a = c .before in let k = a .before in let g = k .before .before in let (m, (o, h, room)) = g .before .before .before .pre in
+      let a = c .before in let k = a .before in let g = k .before .before in let (m, (o, h, room)) = entry g .pre in
       let e = form g (k .enum-told6 .given .1) in
       let l = simp length-append at (ap length (assign-text o h refl (a .arg-at2 .ensures) e)) in
       simp length-append (omega arith)
@@ -403,14 +401,14 @@ module _ (t : ℕ) where
   assign-value : put-tree-lts.Need-put-tree-requires-2 tree-claims (put-tree-at t) put-tree.Post
   assign-value c κs =
       let x = c .before in let w = x .before .before .before in let a = w .before .before in let k = a .before in let g = k .before .before in
-      let (m, (o, h, room)) = g .before .before .before .pre in let e = form g (k .enum-told6 .given .1) in let p = x .first-at2 .ensures in
+      let (m, (o, h, room)) = entry g .pre in let e = form g (k .enum-told6 .given .1) in let p = x .first-at2 .ensures in
       let j = children o h e in let l = simp length-append at (ap length (assign-text o h p (a .arg-at2 .ensures) e)) in
       (omega arith, (o, omega arith, omega (arith, kept (w .put-assigned .ensures), simp length-append at (w .put-assigned .ensures .next))))
 
   assign-bracket : put-tree-lts.Need-put-byte-requires tree-claims (put-tree-at t) put-tree.Post
   assign-bracket c κs =
       let v = c .before .before .before in let x = v .before .before in let w = x .before .before .before in let a = w .before .before in
-      let k = a .before in let g = k .before .before in let (m, (o, h, room)) = g .before .before .before .pre in
+      let k = a .before in let g = k .before .before in let (m, (o, h, room)) = entry g .pre in
       let e = form g (k .enum-told6 .given .1) in
       let d = put-more (w .put-assigned .ensures) (v .put-tree2 .ensures) in
       omega (arith, room-rest (bytes ")") d (rw (assign-text o h (x .first-at2 .ensures) (a .arg-at2 .ensures) e) at room))
@@ -418,7 +416,7 @@ module _ (t : ℕ) where
   assign : put-tree-lts.Need-returns-6 tree-claims (put-tree-at t) put-tree.Post
   assign c =
       let u = c .before .before in let v = u .before .before .before .before in let x = v .before .before in let w = x .before .before .before in
-      let a = w .before .before in let k = a .before in let g = k .before .before in let (m, (o, h, room)) = g .before .before .before .pre in
+      let a = w .before .before in let k = a .before in let g = k .before .before in let (m, (o, h, room)) = entry g .pre in
       let e = form g (k .enum-told6 .given .1) in
       rw (assign-text o h (x .first-at2 .ensures) (a .arg-at2 .ensures) e)
       (put-more (put-more (w .put-assigned .ensures) (v .put-tree2 .ensures)) (u .put-byte .ensures))
@@ -460,9 +458,9 @@ pub +put-branches+put-right+put-tree+put-two+put-while-spec : {M : Type 1} → s
     (λ c κs. search needs)
     (boolean-room t)
     (λ c. search needs)
-    (λ c κs. let k = c .before in let g = k .before .before in let (m, (o, h, room)) = g .before .before .before .pre in (omega arith, (o, h, room, form t g (k .enum-told3 .given .1))))
+    (λ c κs. let k = c .before in let g = k .before .before in let (m, (o, h, room)) = entry t g .pre in (omega arith, (o, h, room, form t g (k .enum-told3 .given .1))))
     (λ c. search needs)
-    (λ c κs. let k = c .before in let g = k .before .before in let (m, (o, h, room)) = g .before .before .before .pre in (omega arith, (o, h, room, form t g (k .enum-told4 .given .1))))
+    (λ c κs. let k = c .before in let g = k .before .before in let (m, (o, h, room)) = entry t g .pre in (omega arith, (o, h, room, form t g (k .enum-told4 .given .1))))
     (λ c. search needs)
     (λ c. search needs)
     (if-word t)
@@ -486,9 +484,9 @@ pub +put-branches+put-right+put-tree+put-two+put-while-spec : {M : Type 1} → s
     (λ c. search needs)
     (skip-room t)
     (λ c. search needs)
-    (λ c κs. let k = c .before in let g = k .before .before in let (m, (o, h, room)) = g .before .before .before .pre in (omega arith, (o, h, room, form t g (k .enum-told9 .given .1))))
+    (λ c κs. let k = c .before in let g = k .before .before in let (m, (o, h, room)) = entry t g .pre in (omega arith, (o, h, room, form t g (k .enum-told9 .given .1))))
     (λ c. search needs)
-    (λ c κs. let k = c .before in let g = k .before .before in let (m, (o, h, room)) = g .before .before .before .pre in (omega arith, (o, h, room, form t g (k .enum-told10 .given .1))))
+    (λ c κs. let k = c .before in let g = k .before .before in let (m, (o, h, room)) = entry t g .pre in (omega arith, (o, h, room, form t g (k .enum-told10 .given .1))))
     (λ c. search needs)
     (λ c. search needs)
     (integer t)
@@ -510,7 +508,7 @@ pub +put-branches+put-right+put-tree+put-two+put-while-spec : {M : Type 1} → s
     (λ c. c .before .before .put-two3 .ensures)
     (λ c. search needs)
     (λ c. c .before .before .put-while .ensures)
-    (λ c. let g = c .before .before in let s = g .before .before .before in absurd (children (s .pre .1 .0) (s .pre .1 .1) (form t g (c .enum-told11 .given .1)))))
+    (λ c. let g = c .before .before in let s = entry t g in absurd (children (s .pre .1 .0) (s .pre .1 .1) (form t g (c .enum-told11 .given .1)))))
     (λ t. put-two-lts.spec
     (two-claims t)
     (put-two-at t)

@@ -3,11 +3,11 @@ use native.Mathlib.Omega.{arith}
 use mathlib.Core.Path.{refl}
 use borrow.Author.Needs.{needs}
 use denote.Ref.{now}
-use Rattle.routine.proofs.Standing.{is-headed}
+use Rattle.routine.proofs.Standing.{is-headed, is-open}
 use Rattle.machine.specs.Moment.{Moment}
 use Rattle.machine.proofs.FirstMoment.{first-moment}
 use Rattle.machine.specs.Lent.{pendingOf}
-use Rattle.moment_text.proofs.MomentStands.{is-open, moment-stands}
+use Rattle.moment_text.proofs.MomentStands.{moment-stands}
 use Rattle.text_after.proofs.Showing.{long-shown, put-shown}
 use Rattle.text_after.proofs.show.Statement.{statement}
 use Rattle.text_after.proofs.show.Tie as tie

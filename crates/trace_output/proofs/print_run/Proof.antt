@@ -8,8 +8,7 @@ use lib.Seq.{length-take-le}
 use denote.Ref.{now}
 use borrow.Author.Needs.{needs}
 use Rattle.routine.specs.Open.{SizesOf, Runnable}
-use Rattle.routine.proofs.Standing.{is-headed}
-use Rattle.moment_text.proofs.MomentStands.{is-open}
+use Rattle.routine.proofs.Standing.{is-headed, is-open}
 use Rattle.trace_lines.proofs.Telling.{told-here}
 use Rattle.trace_output.proofs.print_run.Statement.{statement}
 use Rattle.trace_output.proofs.print_run.Tie as tie
