@@ -12,7 +12,6 @@ ghost use Rattle.routine.specs.Open.{IsOpen};
 ghost use Rattle.machine.specs.State.{exprOf, Seen, Held, contextOf, stack};
 ghost use Rattle.machine.specs.Lent.{framesOf};
 ghost use Rattle.node_text.specs.Put.{Put};
-ghost use Rattle.node_text.specs.Texts.{textAt};
 ghost use Rattle.moment_text.specs.Around.{closing, closes, openingOf, opensOf};
 ghost use Rattle.moment_text.specs.Stand.{placeIn, Stands, Measured, momentText};
 use machine::Place;

@@ -1,7 +1,7 @@
 -- `moment_text::lent_length` meets its contract: the tag 8 is that of a first part, and the other places are told apart by their names.
 use Prim.Native.Nat.{_+_, _*_, _<_}
 use native.Mathlib.Omega.{arith}
-use mathlib.Core.Path.{_≡_, refl, sym, _∙_, subst}
+use mathlib.Core.Path.{_≡_, sym, _∙_, subst}
 use lib.ListN.{length, getD, length-append}
 use denote.Ref.{now}
 use borrow.Author.Needs.{needs}

@@ -1,6 +1,6 @@
 -- `node_text::measure` meets its contract. The invariant: the table holds the length of the text of each node passed, and behind them what it held.
 -- The measure is what is left of the nodes.
-use Prim.Native.Nat.{ℕ, _-_, _≤_}
+use Prim.Native.Nat.{_-_, _≤_}
 use native.Mathlib.Omega.{arith}
 use mathlib.Core.Path.{_≡_, refl, _∙_}
 use lib.ListN.{length, length-set}
