@@ -1,7 +1,9 @@
--- `checker::check` meets its contract: what the admission refuses is refused, and of what it admits the tally is told.
+-- `checker::check` meets its contract: a refusal of opening is the check's, and what was opened is checked.
+use mathlib.Core.List.{[]}
 use borrow.Author.Needs.{needs}
 use Rattle.stored.specs.Answers.{check-refuses}
-use Rattle.checker.proofs.Judged.{accepts}
+use Rattle.stored.proofs.Admission.{opening-refused}
+use Rattle.routine.proofs.Opening.{opening-opens}
 use Rattle.checker.proofs.check.Statement.{statement}
 use Rattle.checker.proofs.check.Tie as tie
 
@@ -12,6 +14,6 @@ check-spec =
     (λ c κs. search needs)
     (λ c. search needs)
     (λ c. search needs)
-    (λ c κs. search needs)
-    (λ c. check-refuses (rw (c .before .r .given .1) at (c .before .before .before .admit .ensures)))
-    (λ c. let w = c .before .before .before in accepts (rw (w .row .given .1) at (w .before .before .admit .ensures)) (c .ty-of .ensures)))
+    (λ c κs. opening-opens (rw (c .before .z .given .1) at (c .before .before .before .open .ensures)))
+    (λ c. check-refuses (opening-refused [] (rw (c .before .r .given .1) at (c .before .before .before .open .ensures))))
+    (λ c. search needs))
