@@ -24,6 +24,7 @@ compare() {
     rows=$((rows + $2))
     cmp -s "$work/expected" "$work/found" && return
     lines=$(diff -a "$work/expected" "$work/found" | grep -a -c '^[<>]' || true)
+    [ "$lines" -gt 0 ] || lines=1
     differ=$((differ + lines))
     cp "$work/rows.in" "$work/differs-$1.rows"
     echo "$lines lines differ: $work/differs-$1.rows" >&2

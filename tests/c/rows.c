@@ -108,6 +108,13 @@ static void print_refusal(struct rigvanesh_answer answer)
         fputs(" changed", stdout);
 }
 
+/* What an accepted answer may not have: something that is also returned, or a word outside what the header says. */
+static void print_odd(int is_odd)
+{
+    if (is_odd)
+        fputs(" odd", stdout);
+}
+
 static void print_check(void)
 {
     static const char *const types[] = {[RIGVANESH_INT] = "int", [RIGVANESH_BOOL] = "bool", [RIGVANESH_UNIT] = "unit"};
@@ -117,11 +124,13 @@ static void print_check(void)
         print_refusal(answer);
     else
         printf("%s %llu %llu %llu", types[out[0]], (unsigned long long)out[1], (unsigned long long)out[2], (unsigned long long)out[3]);
+    print_odd(answer.number == RIGVANESH_ACCEPTED && answer.also != 0);
     putchar('\n');
 }
 
 static void print_ending(void)
 {
+    print_odd(out[1] > (out[0] == RIGVANESH_VALUE_INT ? UINT32_MAX : out[0] == RIGVANESH_VALUE_BOOL ? 1 : out[0] == RIGVANESH_OVERFLOW ? 4095 : 0));
     switch (out[0]) {
     case RIGVANESH_VALUE_INT: printf("value %ld", (long)(int32_t)(uint32_t)out[1]); break;
     case RIGVANESH_VALUE_BOOL: printf("value %s", out[1] ? "true" : "false"); break;
@@ -142,6 +151,7 @@ static void print_run(void)
         printf(" steps %llu loops %llu |", (unsigned long long)out[2], (unsigned long long)out[3]);
         for (size_t i = 0; i < record.entries; i++)
             printf(" %ld", (long)store[i]);
+        print_odd(answer.also != 0);
     }
     putchar('\n');
 }
@@ -161,6 +171,7 @@ static size_t print_text(size_t room)
         fwrite(buffer, 1, length, stdout);
         if (!is_filled(buffer + length, sizeof buffer - length) || !is_filled(out + 2, 2 * sizeof *out) || !store_is_filled())
             fputs(" changed", stdout);
+        print_odd(answer.also != 0);
     }
     putchar('\n');
     return length;

@@ -1,4 +1,4 @@
-// One act of the machine: a move of the search for the next place of work, or a step of the rules.
+// One act of the machine: a move of the search for the next place of work, a step of the rules, or a sum out of range.
 //
 // `seek` tells three cases of an operand apart, which needs no table of jumps, where `load` has four: docs/PERFORMANCE.md says what this gives.
 ghost use mathlib.Core.Path.{_≡_};
@@ -281,7 +281,7 @@ fn act_at(b: &[u8], z: Sizes, s: &[i32], f: Place, x: Work) -> Turn
 }
 
 impl Machine {
-    // One act: a move of the search, or a step. The store is not written here: the act says what is to be written.
+    // One act: a move of the search, a step, or an overflow. The store is not written here: the act says what is to be written.
     pub fn step(mut self, f: Place, b: &[u8], z: Sizes, s: &[i32]) -> Next
         requires { ⌜ Runnable (now b) × Seen (now b) (self .work) × HeldUnder (now b) (self .work) f × (locations (now b) ≤ length (now s)) × ((T : Ty) × (env (now b) ⊢ redex (now b) (self .work) f ∶ T)) × SizesOf (now b) z ⌝ }
         requires { ⌜ (self .steps < 8589934592) × (self .loops < 8589934592) ⌝ }

@@ -1,8 +1,8 @@
 // The state of a run: pending places, the work, and what becomes of them in a turn.
 //
 // Some choices here are for speed, and each was measured. `Work::Node` holds a u64, because an enum of eight bytes or less is carried packed in
-// one word and shifted apart at every turn; the place that an act pushes stands beside the act and not inside it; and every payload of a place
-// is a u32 at one offset: undone, each of these costs a sixth to a third (docs/PERFORMANCE.md).
+// one word and shifted apart at every turn; the place that an act pushes stands beside the act and not inside it; and the first payload of every
+// place is a u32, at one offset: docs/DECISIONS.md has what they gave.
 ghost use mathlib.Core.Path.{_≡_};
 ghost use Prim.Native.Nat.{_<_};
 ghost use lib.ListN.{length};

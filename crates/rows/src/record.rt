@@ -1,6 +1,9 @@
 // A record: 1 byte question, 2 bytes R, 4 bytes of fuel, 2 bytes E, E entries of 4 bytes and the R bytes of the row, all big-endian.
+ghost use mathlib.Core.Path.{_≡_};
 ghost use Prim.Native.Nat.{_+_, _≤_, _<_};
 ghost use lib.ListN.{length};
+ghost use Rattle.stored.specs.Bytes.{byte, pair};
+ghost use Rattle.stored.specs.Trace.{four};
 use input::Got;
 use libc::STDERR_FILENO;
 
@@ -18,14 +21,15 @@ pub struct Head {
 // The number in two bytes.
 fn two(b: &[u8], at: usize) -> usize
     requires { ⌜ at + 1 < length (now b) ⌝ }
-    ensures { λ r. ⌜ r ≤ 65535 ⌝ }
+    ensures { λ r. ⌜ (r ≡ pair (now (b .entry)) at) × (r ≤ 65535) ⌝ }
 {
     routine::pair_at(b, at) as usize
 }
 
 pub fn head_of(b: &[u8]) -> Head
     requires { ⌜ 9 ≤ length (now b) ⌝ }
-    ensures { λ h. ⌜ (h .bytes ≤ 65535) × (h .entries ≤ 65535) ⌝ }
+    ensures said { λ h. ⌜ (h .question ≡ byte (now (b .entry)) 0) × (h .bytes ≡ pair (now (b .entry)) 1) × (h .fuel ≡ four (now (b .entry)) 3) × (h .entries ≡ pair (now (b .entry)) 7) ⌝ }
+    ensures small { λ h. ⌜ (h .bytes ≤ 65535) × (h .entries ≤ 65535) ⌝ }
 {
     Head {
         question: b[0],

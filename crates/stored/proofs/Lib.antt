@@ -17,4 +17,4 @@ pub mod SetBits  -- the bits of the check's two words
 pub mod RunAnswers  -- what the run's answers say, and that there is one
 pub mod LowestFirst  -- the first refusal of each of 01's lists is the lowest that applies
 pub mod ValueLists  -- values read from bytes, one more at a time
-pub mod Example  -- the bytes of 01's worked example
+pub mod Example  -- the bytes of 01's worked example, and what is printed for it

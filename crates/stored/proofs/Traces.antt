@@ -1,4 +1,4 @@
--- What `trace` prints is one list of lines: any two that the definition allows for an input are the same. And 01's worked example, whole.
+-- What `trace` prints is one list of lines: any two that the definition allows for an input are the same.
 use Prim.Native.Nat.{ℕ, suc}
 use native.Mathlib.Omega.{arith}
 use mathlib.Core.Path.{_≡_, refl, ap, ap₂}

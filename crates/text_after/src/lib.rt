@@ -36,7 +36,7 @@ fn copy(s: &[i32], to: &mut [i32])
     }
 }
 
-// Runs k steps on the copy, with its places in the lent slices, and writes the text of the moment if there is room for it.
+// Runs k steps on the copy, with its places in the lent slice, and writes the text of the moment if there is room for it.
 fn show(
     b: &[u8],
     z: Sizes,

@@ -7,7 +7,7 @@ fn main() {
     let mut room = [0u8; 33035];
     let got = input::fill(&mut room);
     if got.failed {
-        io::write_all(STDERR_FILENO, b"trace: nothing could be read\n");
+        io::write_all(STDERR_FILENO, b"trace: the input could not be read\n");
         return;
     }
     let n = got.count;

@@ -1,2 +1,2 @@
--- What the intake of `trace` promises.
+-- What the input of `trace` promises.
 pub mod Says  -- its answer, in 01's numbers and values

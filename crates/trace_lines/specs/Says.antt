@@ -1,4 +1,4 @@
--- What the tracer leaves in the buffer and where it stands then: the lines from `at` on are the next ones, and all are told where it says so.
+-- What a page leaves in the buffer and where the run stands then: the lines from `at` on are the next ones, and all are told where it says so.
 use Prim.Native.Nat.{ℕ, _≤_, _<_}
 use mathlib.Core.Path.{_≡_}
 use mathlib.Core.Bool.{true, false}
