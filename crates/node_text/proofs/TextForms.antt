@@ -17,7 +17,7 @@ use Rattle.node_text.specs.Texts.{formAt, textAt, formWith, signText, br
 use Rattle.node_text.specs.declared.Sign.{Sign}
 use Rattle.node_text.specs.declared.Sign.the-variants.{Plus, Geq, Seq}
 
-regroup-two : (a x s y z : List ℕ) → a ++ x ++ s ++ y ++ z ≡ a ++ x ++ (s ++ y ++ z)
+regroup-two : (a x s y z : List ℕ) → a ++ x ++ s ++ y ++ z ≡ a ++ x ++ s ++ (y ++ z)
 regroup-two a x s y z = simp append-assoc
 
 regroup-if : (a x t y e w z : List ℕ) → a ++ x ++ t ++ y ++ e ++ w ++ z ≡ a ++ x ++ (t ++ y ++ e ++ w ++ z)
@@ -36,18 +36,18 @@ module _ {b : List ℕ} {z : Sizes} (o : IsOpen b z) {i : ℕ} (h : i < count b)
   two-children Seq e = children e
 
   module _ {x : ℕ} (p : x ≡ child1 b i) where
-    pub assign-text : {l : ℕ} → l ≡ arg b i → formAt b i ≡ Assign → textAt b i ≡ (bytes "(" ++ location l ++ bytes " := ") ++ textAt b x ++ bytes ")"
+    pub assign-text : {l : ℕ} → l ≡ arg b i → formAt b i ≡ Assign → textAt b i ≡ (bytes "(" ++ location l ++ bytes " := ") ++ (textAt b x ++ bytes ")")
     unfolding text
-    assign-text a e = rw (a, p) (form-text e)
+    assign-text a e = rw (a, p) (form-text e ∙ append-assoc (bytes "(" ++ location (arg b i) ++ bytes " := ") (textAt b (child1 b i)) (bytes ")"))
 
     module _ {y : ℕ} (q : y ≡ child2 b i) where
       pieces : {F : Form} (sign : List ℕ) → formAt b i ≡ F
           → text (make F b i (treeAt b)) ≡ bytes "(" ++ textAt b (child1 b i) ++ sign ++ textAt b (child2 b i) ++ bytes ")"
-          → textAt b i ≡ bytes "(" ++ textAt b x ++ (sign ++ textAt b y ++ bytes ")")
+          → textAt b i ≡ bytes "(" ++ textAt b x ++ sign ++ (textAt b y ++ bytes ")")
       pieces sign e t = rw (p, q) (form-text e ∙ t ∙ regroup-two (bytes "(") (textAt b (child1 b i)) sign (textAt b (child2 b i)) (bytes ")"))
 
       -- two parts with a sign between them
-      pub two-text : (s : Sign) → formAt b i ≡ formWith s → textAt b i ≡ bytes "(" ++ textAt b x ++ (signText s ++ textAt b y ++ bytes ")")
+      pub two-text : (s : Sign) → formAt b i ≡ formWith s → textAt b i ≡ bytes "(" ++ textAt b x ++ signText s ++ (textAt b y ++ bytes ")")
       unfolding text
       two-text Plus e = pieces (bytes " + ") e refl
       two-text Geq e = pieces (bytes " >= ") e refl

@@ -11,7 +11,7 @@ ghost use Rattle.stored.specs.Layout.{child1, child2};
 ghost use Rattle.stored.specs.Refusals.{count};
 ghost use Rattle.routine.specs.Open.{IsOpen};
 ghost use Rattle.node_text.specs.Put.{Put};
-ghost use Rattle.node_text.specs.Texts.{formAt, textAt, formWith, signText, branches};
+ghost use Rattle.node_text.specs.Texts.{formAt, textAt, signText, branches};
 ghost use Rattle.node_text.specs.Lengths.{LengthsOf, Filled};
 use routine::Form;
 use routine::Sizes;
@@ -155,7 +155,92 @@ fn put_deref(l: u64, buf: &mut [u8], at: usize) -> usize
     put_location(l, buf, p)
 }
 
-// The pieces of a text stand as constants in the arms: handed on as a slice each would be a loop of bytes.
+// The bracket that opens a text, and node j.
+fn put_opened(b: &[u8], z: Sizes, j: u32, buf: &mut [u8], at: usize) -> usize
+    requires { ⌜ IsOpen (now b) z × (j < count (now b)) × (at + length (bytes "(" ++ textAt (now b) j) ≤ length (now buf)) ⌝ }
+    ensures { λ r. ⌜ Put (now (buf .entry)) at (bytes "(" ++ textAt (now (b .entry)) j) (now (buf .exit)) r ⌝ }
+{
+    let p = put_byte(40, buf, at);
+    put_tree(b, z, j, buf, p)
+}
+
+// Node j, and the bracket that closes a text.
+fn put_closed(b: &[u8], z: Sizes, j: u32, buf: &mut [u8], at: usize) -> usize
+    requires { ⌜ IsOpen (now b) z × (j < count (now b)) × (at + length (textAt (now b) j ++ bytes ")") ≤ length (now buf)) ⌝ }
+    ensures { λ r. ⌜ Put (now (buf .entry)) at (textAt (now (b .entry)) j ++ bytes ")") (now (buf .exit)) r ⌝ }
+{
+    let p = put_tree(b, z, j, buf, at);
+    put_byte(41, buf, p)
+}
+
+// The branches of an if, behind its test.
+pub fn put_branches(b: &[u8], z: Sizes, c: u32, d: u32, buf: &mut [u8], at: usize) -> usize
+    requires { ⌜ IsOpen (now b) z × (c < count (now b)) × (d < count (now b)) × (at + length (branches (now b) c d) ≤ length (now buf)) ⌝ }
+    ensures { λ r. ⌜ Put (now (buf .entry)) at (branches (now (b .entry)) c d) (now (buf .exit)) r ⌝ }
+{
+    let p = put_bytes(b" then ", buf, at);
+    let q = put_tree(b, z, c, buf, p);
+    let r = put_bytes(b" else ", buf, q);
+    let t = put_tree(b, z, d, buf, r);
+    put_byte(41, buf, t)
+}
+
+fn put_if(b: &[u8], z: Sizes, i: u32, buf: &mut [u8], at: usize) -> usize
+    requires { ⌜ IsOpen (now b) z × (i < count (now b)) × (at + length (textAt (now b) i) ≤ length (now buf)) × (formAt (now b) i ≡ Form.If) ⌝ }
+    ensures { λ r. ⌜ Put (now (buf .entry)) at (textAt (now (b .entry)) i) (now (buf .exit)) r ⌝ }
+{
+    let p = put_bytes(b"(if ", buf, at);
+    let q = put_tree(b, z, routine::first_at(b, z, i), buf, p);
+    let c = routine::second_at(b, z, i);
+    put_branches(b, z, c, routine::third_at(b, z, i), buf, q)
+}
+
+fn put_while(b: &[u8], z: Sizes, i: u32, buf: &mut [u8], at: usize) -> usize
+    requires { ⌜ IsOpen (now b) z × (i < count (now b)) × (at + length (textAt (now b) i) ≤ length (now buf)) × (formAt (now b) i ≡ Form.While) ⌝ }
+    ensures { λ r. ⌜ Put (now (buf .entry)) at (textAt (now (b .entry)) i) (now (buf .exit)) r ⌝ }
+{
+    let p = put_bytes(b"(while ", buf, at);
+    let q = put_tree(b, z, routine::first_at(b, z, i), buf, p);
+    let r = put_bytes(b" do ", buf, q);
+    let s = put_tree(b, z, routine::second_at(b, z, i), buf, r);
+    put_bytes(b" done)", buf, s)
+}
+
+// The text of node i. The pieces stand as constants in the arms: handed on as a slice each would be a loop of bytes.
+pub fn put_tree(b: &[u8], z: Sizes, i: u32, buf: &mut [u8], at: usize) -> usize
+    requires { ⌜ IsOpen (now b) z × (i < count (now b)) × (at + length (textAt (now b) i) ≤ length (now buf)) ⌝ }
+    ensures { λ r. ⌜ Put (now (buf .entry)) at (textAt (now (b .entry)) i) (now (buf .exit)) r ⌝ }
+{
+    match routine::form_at(b, z, i) {
+        Form::Integer => put_number(routine::integer_at(b, z, i), buf, at),
+        Form::Boolean => put_truth(routine::arg_at(b, z, i) == 1, buf, at),
+        Form::Plus => {
+            let p = put_opened(b, z, routine::first_at(b, z, i), buf, at);
+            let q = put_bytes(b" + ", buf, p);
+            put_closed(b, z, routine::second_at(b, z, i), buf, q)
+        }
+        Form::Geq => {
+            let p = put_opened(b, z, routine::first_at(b, z, i), buf, at);
+            let q = put_bytes(b" >= ", buf, p);
+            put_closed(b, z, routine::second_at(b, z, i), buf, q)
+        }
+        Form::If => put_if(b, z, i, buf, at),
+        Form::Assign => {
+            let p = put_assigned(routine::arg_at(b, z, i) as u64, buf, at);
+            put_closed(b, z, routine::first_at(b, z, i), buf, p)
+        }
+        Form::Deref => put_deref(routine::arg_at(b, z, i) as u64, buf, at),
+        Form::Skip => put_bytes(b"skip", buf, at),
+        Form::Seq => {
+            let p = put_opened(b, z, routine::first_at(b, z, i), buf, at);
+            let q = put_bytes(b" ; ", buf, p);
+            put_closed(b, z, routine::second_at(b, z, i), buf, q)
+        }
+        Form::While => put_while(b, z, i, buf, at),
+        Form::Unknown => at,
+    }
+}
+
 fn put_sign(s: Sign, buf: &mut [u8], at: usize) -> usize
     requires { ⌜ at + length (signText s) ≤ length (now buf) ⌝ }
     ensures { λ r. ⌜ Put (now (buf .entry)) at (signText s) (now (buf .exit)) r ⌝ }
@@ -175,68 +260,6 @@ pub fn put_right(b: &[u8], z: Sizes, s: Sign, c: u32, buf: &mut [u8], at: usize)
     let p = put_sign(s, buf, at);
     let q = put_tree(b, z, c, buf, p);
     put_byte(41, buf, q)
-}
-
-// A node of two parts with a sign between them.
-fn put_two(b: &[u8], z: Sizes, i: u32, s: Sign, buf: &mut [u8], at: usize) -> usize
-    requires { ⌜ IsOpen (now b) z × (i < count (now b)) × (at + length (textAt (now b) i) ≤ length (now buf)) × (formAt (now b) i ≡ formWith s) ⌝ }
-    ensures { λ r. ⌜ Put (now (buf .entry)) at (textAt (now (b .entry)) i) (now (buf .exit)) r ⌝ }
-{
-    let p = put_byte(40, buf, at);
-    let q = put_tree(b, z, routine::first_at(b, z, i), buf, p);
-    put_right(b, z, s, routine::second_at(b, z, i), buf, q)
-}
-
-// The branches of an if, behind its test.
-pub fn put_branches(b: &[u8], z: Sizes, c: u32, d: u32, buf: &mut [u8], at: usize) -> usize
-    requires { ⌜ IsOpen (now b) z × (c < count (now b)) × (d < count (now b)) × (at + length (branches (now b) c d) ≤ length (now buf)) ⌝ }
-    ensures { λ r. ⌜ Put (now (buf .entry)) at (branches (now (b .entry)) c d) (now (buf .exit)) r ⌝ }
-{
-    let p = put_bytes(b" then ", buf, at);
-    let q = put_tree(b, z, c, buf, p);
-    let r = put_bytes(b" else ", buf, q);
-    let t = put_tree(b, z, d, buf, r);
-    put_byte(41, buf, t)
-}
-
-fn put_while(b: &[u8], z: Sizes, i: u32, buf: &mut [u8], at: usize) -> usize
-    requires { ⌜ IsOpen (now b) z × (i < count (now b)) × (at + length (textAt (now b) i) ≤ length (now buf)) × (formAt (now b) i ≡ Form.While) ⌝ }
-    ensures { λ r. ⌜ Put (now (buf .entry)) at (textAt (now (b .entry)) i) (now (buf .exit)) r ⌝ }
-{
-    let p = put_bytes(b"(while ", buf, at);
-    let q = put_tree(b, z, routine::first_at(b, z, i), buf, p);
-    let r = put_bytes(b" do ", buf, q);
-    let s = put_tree(b, z, routine::second_at(b, z, i), buf, r);
-    put_bytes(b" done)", buf, s)
-}
-
-// The text of node i.
-pub fn put_tree(b: &[u8], z: Sizes, i: u32, buf: &mut [u8], at: usize) -> usize
-    requires { ⌜ IsOpen (now b) z × (i < count (now b)) × (at + length (textAt (now b) i) ≤ length (now buf)) ⌝ }
-    ensures { λ r. ⌜ Put (now (buf .entry)) at (textAt (now (b .entry)) i) (now (buf .exit)) r ⌝ }
-{
-    match routine::form_at(b, z, i) {
-        Form::Integer => put_number(routine::integer_at(b, z, i), buf, at),
-        Form::Boolean => put_truth(routine::arg_at(b, z, i) == 1, buf, at),
-        Form::Plus => put_two(b, z, i, Sign::Plus, buf, at),
-        Form::Geq => put_two(b, z, i, Sign::Geq, buf, at),
-        Form::If => {
-            let p = put_bytes(b"(if ", buf, at);
-            let q = put_tree(b, z, routine::first_at(b, z, i), buf, p);
-            let c = routine::second_at(b, z, i);
-            put_branches(b, z, c, routine::third_at(b, z, i), buf, q)
-        }
-        Form::Assign => {
-            let p = put_assigned(routine::arg_at(b, z, i) as u64, buf, at);
-            let q = put_tree(b, z, routine::first_at(b, z, i), buf, p);
-            put_byte(41, buf, q)
-        }
-        Form::Deref => put_deref(routine::arg_at(b, z, i) as u64, buf, at),
-        Form::Skip => put_bytes(b"skip", buf, at),
-        Form::Seq => put_two(b, z, i, Sign::Seq, buf, at),
-        Form::While => put_while(b, z, i, buf, at),
-        Form::Unknown => at,
-    }
 }
 
 // What a table holds of node j.

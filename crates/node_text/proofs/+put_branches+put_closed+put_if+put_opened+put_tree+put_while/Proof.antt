@@ -1,8 +1,9 @@
 -- `node_text::put_tree` and the functions that write a part of a node meet their contracts: the pieces of a form's text, one after the other.
 -- The measure is three times the node's number, and one more for the whole node, two more for a node with what stands around it.
-use Prim.Native.Nat.{ℕ, _+_, _*_, _<_, max}
+use Prim.Native.Nat.{ℕ, _+_, _*_, _<_, _≤_, max}
 use native.Mathlib.Omega.{arith}
 use mathlib.Core.Path.{_≡_, refl, sym, _∙_, ap}
+use mathlib.Core.List.{List, _++_}
 use lib.ListN.{length, length-append}
 use mir.Syntax.{w32}
 use mir.Facts.{toZ-ofZ}
@@ -10,28 +11,37 @@ use denote.Ref.{now}
 use borrow.Author.Needs.{needs}
 use borrow.Fn.Kinds.{In}
 use borrow.Fn.PlainCycle.{Measures, is, falls, and}
-use Rattle.l1.specs.Text.{bytes, text}
+use Rattle.l1.specs.Text.{bytes, location, text}
+use Rattle.stored.specs.Layout.{child1, child2}
 use Rattle.stored.specs.Reader.{treeAt}
+use Rattle.stored.specs.Refusals.{count}
 use Rattle.routine.specs.Forms.{make}
+use Rattle.routine.specs.Open.{IsOpen}
 use Rattle.routine.specs.declared.Form.{Form}
-use Rattle.node_text.specs.Texts.{formAt, textAt}
-use Rattle.node_text.proofs.PutLaws.{put-more, kept, room-rest}
+use Rattle.node_text.specs.Put.{Put}
+use Rattle.node_text.specs.Texts.{formAt, textAt, formWith, signText}
+use Rattle.node_text.specs.declared.Sign.{Sign}
+use Rattle.node_text.specs.declared.Sign.the-variants.{Plus, Geq, Seq}
+use Rattle.node_text.proofs.PutLaws.{put-more, kept, room-first, room-rest}
 use Rattle.node_text.proofs.TextForms.{form-text, children, two-children, assign-text, two-text, while-text, if-text}
 use Rattle.node_text.proofs.put_branches.Reads as put-branches
 use Rattle.node_text.proofs.put_branches.Kinds as put-branches-kinds
-use Rattle.node_text.proofs.+put_branches+put_right+put_tree+put_two+put_while.Lts-put_branches as put-branches-lts
-use Rattle.node_text.proofs.put_right.Reads as put-right
-use Rattle.node_text.proofs.put_right.Kinds as put-right-kinds
-use Rattle.node_text.proofs.+put_branches+put_right+put_tree+put_two+put_while.Lts-put_right as put-right-lts
+use Rattle.node_text.proofs.+put_branches+put_closed+put_if+put_opened+put_tree+put_while.Lts-put_branches as put-branches-lts
+use Rattle.node_text.proofs.put_closed.Reads as put-closed
+use Rattle.node_text.proofs.put_closed.Kinds as put-closed-kinds
+use Rattle.node_text.proofs.+put_branches+put_closed+put_if+put_opened+put_tree+put_while.Lts-put_closed as put-closed-lts
+use Rattle.node_text.proofs.put_if.Reads as put-if
+use Rattle.node_text.proofs.put_if.Kinds as put-if-kinds
+use Rattle.node_text.proofs.+put_branches+put_closed+put_if+put_opened+put_tree+put_while.Lts-put_if as put-if-lts
+use Rattle.node_text.proofs.put_opened.Reads as put-opened
+use Rattle.node_text.proofs.put_opened.Kinds as put-opened-kinds
+use Rattle.node_text.proofs.+put_branches+put_closed+put_if+put_opened+put_tree+put_while.Lts-put_opened as put-opened-lts
 use Rattle.node_text.proofs.put_tree.Reads as put-tree
 use Rattle.node_text.proofs.put_tree.Kinds as put-tree-kinds
-use Rattle.node_text.proofs.+put_branches+put_right+put_tree+put_two+put_while.Lts-put_tree as put-tree-lts
-use Rattle.node_text.proofs.put_two.Reads as put-two
-use Rattle.node_text.proofs.put_two.Kinds as put-two-kinds
-use Rattle.node_text.proofs.+put_branches+put_right+put_tree+put_two+put_while.Lts-put_two as put-two-lts
+use Rattle.node_text.proofs.+put_branches+put_closed+put_if+put_opened+put_tree+put_while.Lts-put_tree as put-tree-lts
 use Rattle.node_text.proofs.put_while.Reads as put-while
 use Rattle.node_text.proofs.put_while.Kinds as put-while-kinds
-use Rattle.node_text.proofs.+put_branches+put_right+put_tree+put_two+put_while.Lts-put_while as put-while-lts
+use Rattle.node_text.proofs.+put_branches+put_closed+put_if+put_opened+put_tree+put_while.Lts-put_while as put-while-lts
 use Rattle.routine.proofs.arg_at.Reads as arg-at-reads
 use Rattle.routine.proofs.first_at.Reads as first-at-reads
 use Rattle.routine.proofs.form_at.Reads as form-at-reads
@@ -43,22 +53,24 @@ use Rattle.node_text.proofs.put_byte.Reads as put-byte-reads
 use Rattle.node_text.proofs.put_bytes.Reads as put-bytes-reads
 use Rattle.node_text.proofs.put_deref.Reads as put-deref-reads
 use Rattle.node_text.proofs.put_number.Reads as put-number-reads
-use Rattle.node_text.proofs.put_sign.Reads as put-sign-reads
 use Rattle.node_text.proofs.put_truth.Reads as put-truth-reads
-use Rattle.node_text.proofs.+put_branches+put_right+put_tree+put_two+put_while.{statement}
-use Rattle.node_text.proofs.+put_branches+put_right+put_tree+put_two+put_while.Tie.{close}
+use Rattle.node_text.proofs.+put_branches+put_closed+put_if+put_opened+put_tree+put_while.{statement}
+use Rattle.node_text.proofs.+put_branches+put_closed+put_if+put_opened+put_tree+put_while.Tie.{close}
 
 abbrev μ-put-branches : Measures 2 put-branches-kinds.ps ℕ
 μ-put-branches κs a = 3 * max (a .1 .1 .0) (a .1 .1 .1 .0) + 2
 
-abbrev μ-put-right : Measures 2 put-right-kinds.ps ℕ
-μ-put-right κs a = 3 * (a .1 .1 .1 .0) + 2
+abbrev μ-put-closed : Measures 2 put-closed-kinds.ps ℕ
+μ-put-closed κs a = 3 * (a .1 .1 .0) + 2
+
+abbrev μ-put-if : Measures 2 put-if-kinds.ps ℕ
+μ-put-if κs a = 3 * (a .1 .1 .0)
+
+abbrev μ-put-opened : Measures 2 put-opened-kinds.ps ℕ
+μ-put-opened κs a = 3 * (a .1 .1 .0) + 2
 
 abbrev μ-put-tree : Measures 2 put-tree-kinds.ps ℕ
 μ-put-tree κs a = 3 * (a .1 .1 .0) + 1
-
-abbrev μ-put-two : Measures 2 put-two-kinds.ps ℕ
-μ-put-two κs a = 3 * (a .1 .1 .0)
 
 abbrev μ-put-while : Measures 2 put-while-kinds.ps ℕ
 μ-put-while κs a = 3 * (a .1 .1 .0)
@@ -69,11 +81,23 @@ put-branches-at t = and 2 put-branches-kinds.ps (is 2 put-branches-kinds.ps μ-p
 abbrev put-branches-below : ℕ → In 2 put-branches-kinds.ps
 put-branches-below t = and 2 put-branches-kinds.ps (falls 2 put-branches-kinds.ps _<_ μ-put-branches t) put-branches.Pre
 
-abbrev put-right-at : ℕ → In 2 put-right-kinds.ps
-put-right-at t = and 2 put-right-kinds.ps (is 2 put-right-kinds.ps μ-put-right t) put-right.Pre
+abbrev put-closed-at : ℕ → In 2 put-closed-kinds.ps
+put-closed-at t = and 2 put-closed-kinds.ps (is 2 put-closed-kinds.ps μ-put-closed t) put-closed.Pre
 
-abbrev put-right-below : ℕ → In 2 put-right-kinds.ps
-put-right-below t = and 2 put-right-kinds.ps (falls 2 put-right-kinds.ps _<_ μ-put-right t) put-right.Pre
+abbrev put-closed-below : ℕ → In 2 put-closed-kinds.ps
+put-closed-below t = and 2 put-closed-kinds.ps (falls 2 put-closed-kinds.ps _<_ μ-put-closed t) put-closed.Pre
+
+abbrev put-if-at : ℕ → In 2 put-if-kinds.ps
+put-if-at t = and 2 put-if-kinds.ps (is 2 put-if-kinds.ps μ-put-if t) put-if.Pre
+
+abbrev put-if-below : ℕ → In 2 put-if-kinds.ps
+put-if-below t = and 2 put-if-kinds.ps (falls 2 put-if-kinds.ps _<_ μ-put-if t) put-if.Pre
+
+abbrev put-opened-at : ℕ → In 2 put-opened-kinds.ps
+put-opened-at t = and 2 put-opened-kinds.ps (is 2 put-opened-kinds.ps μ-put-opened t) put-opened.Pre
+
+abbrev put-opened-below : ℕ → In 2 put-opened-kinds.ps
+put-opened-below t = and 2 put-opened-kinds.ps (falls 2 put-opened-kinds.ps _<_ μ-put-opened t) put-opened.Pre
 
 abbrev put-tree-at : ℕ → In 2 put-tree-kinds.ps
 put-tree-at t = and 2 put-tree-kinds.ps (is 2 put-tree-kinds.ps μ-put-tree t) put-tree.Pre
@@ -81,87 +105,55 @@ put-tree-at t = and 2 put-tree-kinds.ps (is 2 put-tree-kinds.ps μ-put-tree t) p
 abbrev put-tree-below : ℕ → In 2 put-tree-kinds.ps
 put-tree-below t = and 2 put-tree-kinds.ps (falls 2 put-tree-kinds.ps _<_ μ-put-tree t) put-tree.Pre
 
-abbrev put-two-at : ℕ → In 2 put-two-kinds.ps
-put-two-at t = and 2 put-two-kinds.ps (is 2 put-two-kinds.ps μ-put-two t) put-two.Pre
-
-abbrev put-two-below : ℕ → In 2 put-two-kinds.ps
-put-two-below t = and 2 put-two-kinds.ps (falls 2 put-two-kinds.ps _<_ μ-put-two t) put-two.Pre
-
 abbrev put-while-at : ℕ → In 2 put-while-kinds.ps
 put-while-at t = and 2 put-while-kinds.ps (is 2 put-while-kinds.ps μ-put-while t) put-while.Pre
 
 abbrev put-while-below : ℕ → In 2 put-while-kinds.ps
 put-while-below t = and 2 put-while-kinds.ps (falls 2 put-while-kinds.ps _<_ μ-put-while t) put-while.Pre
 
--- ---- a sign, and what is to the right of it
+-- ---- a node with a bracket
 
 module _ (t : ℕ) where
-  abbrev right-claims : put-right-lts.Claims
-  right-claims = (put-sign-reads.Asked, put-sign-reads.Learnt, put-tree-below t, put-tree.Post, put-byte-reads.Asked, put-byte-reads.Learnt)
-
-  right-sign : put-right-lts.Need-put-sign-requires right-claims (put-right-at t) put-right.Post
-  right-sign c κs =
-      let s = c .before .before .before in let (m, (o, h, room)) = s .pre in
-      omega (arith, simp length-append at room)
-
-  right-node : put-right-lts.Need-put-tree-requires right-claims (put-right-at t) put-right.Post
-  right-node c κs =
-      let w = c .before .before .before in let (m, (o, h, room)) = w .before .before .before .before .pre in
-      (omega arith, (o, h, omega (arith, simp length-append at room, kept (w .put-sign .ensures), w .put-sign .ensures .next)))
-
-  right-bracket : put-right-lts.Need-put-byte-requires right-claims (put-right-at t) put-right.Post
-  right-bracket c κs =
-      let v = c .before .before .before in let w = v .before .before .before .before in let (m, (o, h, room)) = w .before .before .before .before .pre in
-      omega (arith, room-rest (bytes ")") (put-more (w .put-sign .ensures) (v .put-tree .ensures)) room)
-
-  right : put-right-lts.Need-returns right-claims (put-right-at t) put-right.Post
-  right c =
-      let u = c .before .before in let v = u .before .before .before .before in let w = v .before .before .before .before in
-      put-more (put-more (w .put-sign .ensures) (v .put-tree .ensures)) (u .put-byte .ensures)
-
--- ---- two parts with a sign between them
-
-module _ (t : ℕ) where
-  abbrev two-claims : put-two-lts.Claims
-  two-claims = (
+  abbrev opened-claims : put-opened-lts.Claims
+  opened-claims = (
     put-byte-reads.Asked,
     put-byte-reads.Learnt,
-    first-at-reads.Asked,
-    first-at-reads.Learnt,
     put-tree-below t,
     put-tree.Post,
-    second-at-reads.Asked,
-    second-at-reads.Learnt,
-    put-right-below t,
-    put-right.Post,
   )
 
-  two-bracket : put-two-lts.Need-put-byte-requires two-claims (put-two-at t) put-two.Post
-  two-bracket c κs =
-      let s = c .before .before .before in let (m, (o, h, room, e)) = s .pre in
-      omega (arith, simp length-append at (ap length (two-text o h refl refl (s .args .s) e)))
+  opened-node : put-opened-lts.Need-put-tree-requires opened-claims (put-opened-at t) put-opened.Post
+  opened-node c κs =
+      let w = c .before .before .before in let s = w .before .before .before .before in let (m, (o, h, room)) = s .pre in
+      (omega arith, (o, h, room-rest (textAt (now (s .args .b)) (s .args .j)) (w .put-byte .ensures) room))
 
-  two-first : put-two-lts.Need-put-tree-requires two-claims (put-two-at t) put-two.Post
-  two-first c κs =
-      let x = c .before in let w = x .before .before .before in let s = w .before .before .before .before in let (m, (o, h, room, e)) = s .pre in
-      let p = x .first-at .ensures in let j = two-children o h (s .args .s) e in
-      let l = simp length-append at (ap length (two-text o h p refl (s .args .s) e)) in
-      (omega arith, (o, omega arith, omega (arith, kept (w .put-byte .ensures))))
+  opened : put-opened-lts.Need-returns opened-claims (put-opened-at t) put-opened.Post
+  opened c =
+      let v = c .before .before in
+      put-more (v .before .before .before .before .put-byte .ensures) (v .put-tree .ensures)
 
-  two-right : put-two-lts.Need-put-right-requires two-claims (put-two-at t) put-two.Post
-  two-right c κs =
-      let y = c .before in let v = y .before .before .before in let x = v .before .before in let w = x .before .before .before in
-      let s = w .before .before .before .before in let (m, (o, h, room, e)) = s .pre in
-      let q = y .second-at .ensures in let j = two-children o h (s .args .s) e in
-      let d = put-more (w .put-byte .ensures) (v .put-tree .ensures) in
-      (omega arith, (o, omega arith, room-rest _ d (rw (two-text o h (x .first-at .ensures) q (s .args .s) e) at room)))
+  abbrev closed-claims : put-closed-lts.Claims
+  closed-claims = (
+    put-tree-below t,
+    put-tree.Post,
+    put-byte-reads.Asked,
+    put-byte-reads.Learnt,
+  )
 
-  two : put-two-lts.Need-returns two-claims (put-two-at t) put-two.Post
-  two c =
-      let u = c .before .before in let y = u .before .before in let v = y .before .before .before in let x = v .before .before in
-      let w = x .before .before .before in let s = w .before .before .before .before in let (m, (o, h, room, e)) = s .pre in
-      rw (two-text o h (x .first-at .ensures) (y .second-at .ensures) (s .args .s) e)
-      (put-more (put-more (w .put-byte .ensures) (v .put-tree .ensures)) (u .put-right .ensures))
+  closed-node : put-closed-lts.Need-put-tree-requires closed-claims (put-closed-at t) put-closed.Post
+  closed-node c κs =
+      let s = c .before .before .before in let (m, (o, h, room)) = s .pre in
+      (omega arith, (o, h, room-first (s .args .at) (textAt (now (s .args .b)) (s .args .j)) (bytes ")") (now (s .args .buf)) room))
+
+  closed-bracket : put-closed-lts.Need-put-byte-requires closed-claims (put-closed-at t) put-closed.Post
+  closed-bracket c κs =
+      let w = c .before .before .before in
+      omega (arith, room-rest (bytes ")") (w .put-tree .ensures) (w .before .before .before .before .pre .1 .2))
+
+  closed : put-closed-lts.Need-returns closed-claims (put-closed-at t) put-closed.Post
+  closed c =
+      let v = c .before .before in
+      put-more (v .before .before .before .before .put-tree .ensures) (v .put-byte .ensures)
 
 -- ---- the branches of a conditional
 
@@ -205,6 +197,52 @@ module _ (t : ℕ) where
       let r = c .before .before in let q = r .before .before .before .before in let u = q .before .before .before .before in
       let v = u .before .before .before .before .before in let w = v .before .before .before .before in
       put-more (put-more (put-more (put-more (w .put-bytes .ensures) (v .put-tree .ensures)) (u .put-bytes2 .ensures)) (q .put-tree2 .ensures)) (r .put-byte .ensures)
+
+-- ---- a conditional
+
+module _ (t : ℕ) where
+  abbrev if-claims : put-if-lts.Claims
+  if-claims = (
+    put-bytes-reads.Asked,
+    put-bytes-reads.Learnt,
+    first-at-reads.Asked,
+    first-at-reads.Learnt,
+    put-tree-below t,
+    put-tree.Post,
+    second-at-reads.Asked,
+    second-at-reads.Learnt,
+    third-at-reads.Asked,
+    third-at-reads.Learnt,
+    put-branches-below t,
+    put-branches.Post,
+  )
+
+  if-word : put-if-lts.Need-put-bytes-requires if-claims (put-if-at t) put-if.Post
+  if-word c κs =
+      let (m, (o, h, room, e)) = c .before .before .before .before .pre in
+      omega (arith, simp length-append at (ap length (if-text o h refl refl refl e)))
+
+  if-test : put-if-lts.Need-put-tree-requires if-claims (put-if-at t) put-if.Post
+  if-test c κs =
+      let x = c .before in let w = x .before .before .before in let (m, (o, h, room, e)) = w .before .before .before .before .before .pre in
+      let p = x .first-at .ensures in let j = children o h e in let l = simp length-append at (ap length (if-text o h p refl refl e)) in
+      (omega arith, (o, omega arith, omega (arith, kept (w .put-bytes .ensures))))
+
+  if-branches : put-if-lts.Need-put-branches-requires if-claims (put-if-at t) put-if.Post
+  if-branches c κs =
+      let n = c .before in let y = n .before in let v = y .before .before .before in let x = v .before .before in
+      let w = x .before .before .before in let (m, (o, h, room, e)) = w .before .before .before .before .before .pre in
+      let j = children o h e in let q = y .second-at .ensures in let r = n .third-at .ensures in
+      let d = put-more (w .put-bytes .ensures) (v .put-tree .ensures) in
+      (omega arith, (o, omega arith, omega arith, room-rest _ d (rw (if-text o h (x .first-at .ensures) q r e) at room)))
+
+  if-all : put-if-lts.Need-returns if-claims (put-if-at t) put-if.Post
+  if-all c =
+      let u = c .before .before in let n = u .before .before in let y = n .before in let v = y .before .before .before in
+      let x = v .before .before in let w = x .before .before .before in
+      let (m, (o, h, room, e)) = w .before .before .before .before .before .pre in
+      rw (if-text o h (x .first-at .ensures) (y .second-at .ensures) (n .third-at .ensures) e)
+      (put-more (put-more (w .put-bytes .ensures) (v .put-tree .ensures)) (u .put-branches .ensures))
 
 -- ---- a loop
 
@@ -280,24 +318,20 @@ module _ (t : ℕ) where
     arg-at-reads.Learnt,
     put-truth-reads.Asked,
     put-truth-reads.Learnt,
-    put-two-below t,
-    put-two.Post,
-    put-bytes-reads.Asked,
-    put-bytes-reads.Learnt,
     first-at-reads.Asked,
     first-at-reads.Learnt,
-    put-tree-below t,
-    put-tree.Post,
+    put-opened-below t,
+    put-opened.Post,
+    put-bytes-reads.Asked,
+    put-bytes-reads.Learnt,
     second-at-reads.Asked,
     second-at-reads.Learnt,
-    third-at-reads.Asked,
-    third-at-reads.Learnt,
-    put-branches-below t,
-    put-branches.Post,
+    put-closed-below t,
+    put-closed.Post,
+    put-if-below t,
+    put-if.Post,
     put-assigned-reads.Asked,
     put-assigned-reads.Learnt,
-    put-byte-reads.Asked,
-    put-byte-reads.Learnt,
     put-deref-reads.Asked,
     put-deref-reads.Learnt,
     put-while-below t,
@@ -353,77 +387,64 @@ module _ (t : ℕ) where
       let p = c .before .before in let a = p .before .before in let k = a .before in
       rw (whole (k .before .before) (k .enum-told7 .given .1)) (rw (a .arg-at3 .ensures) at (p .put-deref .ensures))
 
-  skip-room : put-tree-lts.Need-put-bytes-requires-2 tree-claims (put-tree-at t) put-tree.Post
+  skip-room : put-tree-lts.Need-put-bytes-requires-3 tree-claims (put-tree-at t) put-tree.Post
   unfolding text
   skip-room c κs = let k = c .before .before in let g = k .before .before in rw (whole g (k .enum-told8 .given .1)) at (entry g .pre .1 .2)
 
   skip : put-tree-lts.Need-returns-8 tree-claims (put-tree-at t) put-tree.Post
   unfolding text
-  skip c = let p = c .before .before in let k = p .before .before .before in rw (whole (k .before .before) (k .enum-told8 .given .1)) (p .put-bytes2 .ensures)
+  skip c = let p = c .before .before in let k = p .before .before .before in rw (whole (k .before .before) (k .enum-told8 .given .1)) (p .put-bytes3 .ensures)
 
-  if-word : put-tree-lts.Need-put-bytes-requires tree-claims (put-tree-at t) put-tree.Post
-  if-word c κs =
-      let k = c .before .before in let g = k .before .before in let (m, (o, h, room)) = entry g .pre in
-      let e = form g (k .enum-told5 .given .1) in
-      omega (arith, simp length-append at (ap length (if-text o h refl refl refl e)))
+  -- two parts with a sign between them: what is asked of each piece, and all of them
+  module _ (g : Found) (s : Sign) (found : g .form-at .result ≡ formWith s) {x : ℕ} (p : x ≡ child1 (now (entry g .args .b)) (entry g .args .i)) where
+    opens-two : (3 * x + 2 < t)
+        × (IsOpen (now (entry g .args .b)) (entry g .args .z) × (x < count (now (entry g .args .b))) × (entry g .args .at + length (bytes "(" ++ textAt (now (entry g .args .b)) x) ≤ length (now (entry g .args .buf))))
+    opens-two =
+        let (m, (o, h, room)) = entry g .pre in let e = form g found in let j = two-children o h s e in
+        let l = simp length-append at (ap length (two-text o h p refl s e)) in
+        (omega arith, (o, omega arith, simp length-append (omega arith)))
 
-  if-test : put-tree-lts.Need-put-tree-requires tree-claims (put-tree-at t) put-tree.Post
-  if-test c κs =
-      let x = c .before in let w = x .before .before .before in let k = w .before .before .before in let g = k .before .before in
-      let (m, (o, h, room)) = entry g .pre in let e = form g (k .enum-told5 .given .1) in let p = x .first-at .ensures in
-      let j = children o h e in let l = simp length-append at (ap length (if-text o h p refl refl e)) in
-      (omega arith, (o, omega arith, omega (arith, kept (w .put-bytes .ensures))))
+    room-for-sign : {c : List ℕ} {r : ℕ} → Put (now (entry g .args .buf)) (entry g .args .at) (bytes "(" ++ textAt (now (entry g .args .b)) x) c r
+        → r + length (signText s) ≤ length c
+    room-for-sign d =
+        let (m, (o, h, room)) = entry g .pre in let l = simp length-append at (ap length (two-text o h p refl s (form g found))) in
+        omega (arith, kept d, simp length-append at (d .next))
 
-  if-branches : put-tree-lts.Need-put-branches-requires tree-claims (put-tree-at t) put-tree.Post
-  if-branches c κs =
-      let n = c .before in let y = n .before in let v = y .before .before .before in let x = v .before .before in
-      let w = x .before .before .before in let k = w .before .before .before in let g = k .before .before in
-      let (m, (o, h, room)) = entry g .pre in let e = form g (k .enum-told5 .given .1) in
-      let j = children o h e in let q = y .second-at .ensures in let r = n .third-at .ensures in
-      let d = put-more (w .put-bytes .ensures) (v .put-tree .ensures) in
-      (omega arith, (o, omega arith, omega arith, room-rest _ d (rw (if-text o h (x .first-at .ensures) q r e) at room)))
+    module _ {y : ℕ} (q : y ≡ child2 (now (entry g .args .b)) (entry g .args .i)) where
+      closes-two : {c : List ℕ} {r : ℕ} → Put (now (entry g .args .buf)) (entry g .args .at) (bytes "(" ++ textAt (now (entry g .args .b)) x ++ signText s) c r
+          → (3 * y + 2 < t)
+          × (IsOpen (now (entry g .args .b)) (entry g .args .z) × (y < count (now (entry g .args .b))) × (r + length (textAt (now (entry g .args .b)) y ++ bytes ")") ≤ length c))
+      closes-two d =
+          let (m, (o, h, room)) = entry g .pre in let e = form g found in let j = two-children o h s e in
+          (omega arith, (o, omega arith, room-rest _ d (rw (two-text o h p q s e) at room)))
 
-  if-all : put-tree-lts.Need-returns-5 tree-claims (put-tree-at t) put-tree.Post
-  if-all c =
-      let u = c .before .before in let n = u .before .before in let y = n .before in let v = y .before .before .before in
-      let x = v .before .before in let w = x .before .before .before in let k = w .before .before .before in let g = k .before .before in
-      let (m, (o, h, room)) = entry g .pre in let e = form g (k .enum-told5 .given .1) in
-      rw (if-text o h (x .first-at .ensures) (y .second-at .ensures) (n .third-at .ensures) e)
-      (put-more (put-more (w .put-bytes .ensures) (v .put-tree .ensures)) (u .put-branches .ensures))
+      both : {c : List ℕ} {r : ℕ} → Put (now (entry g .args .buf)) (entry g .args .at) (bytes "(" ++ textAt (now (entry g .args .b)) x ++ signText s ++ (textAt (now (entry g .args .b)) y ++ bytes ")")) c r
+          → Put (now (entry g .args .buf)) (entry g .args .at) (textAt (now (entry g .args .b)) (entry g .args .i)) c r
+      both d = let (m, (o, h, room)) = entry g .pre in rw (two-text o h p q s (form g found)) d
 
   assign-location : put-tree-lts.Need-put-assigned-requires tree-claims (put-tree-at t) put-tree.Post
   assign-location c κs =
       let a = c .before in let k = a .before in let g = k .before .before in let (m, (o, h, room)) = entry g .pre in
-      let e = form g (k .enum-told6 .given .1) in
-      let l = simp length-append at (ap length (assign-text o h refl (a .arg-at2 .ensures) e)) in
-      simp length-append (omega arith)
+      let e = form g (k .enum-told6 .given .1) in let s = entry g in
+      let p = bytes "(" ++ location (a .arg-at2 .result) ++ bytes " := " in
+      room-first (s .args .at) p _ (now (s .args .buf)) (rw (assign-text o h refl (a .arg-at2 .ensures) e) at room)
 
-  assign-value : put-tree-lts.Need-put-tree-requires-2 tree-claims (put-tree-at t) put-tree.Post
+  assign-value : put-tree-lts.Need-put-closed-requires-3 tree-claims (put-tree-at t) put-tree.Post
   assign-value c κs =
       let x = c .before in let w = x .before .before .before in let a = w .before .before in let k = a .before in let g = k .before .before in
-      let (m, (o, h, room)) = entry g .pre in let e = form g (k .enum-told6 .given .1) in let p = x .first-at2 .ensures in
-      let j = children o h e in let l = simp length-append at (ap length (assign-text o h p (a .arg-at2 .ensures) e)) in
-      (omega arith, (o, omega arith, omega (arith, kept (w .put-assigned .ensures), simp length-append at (w .put-assigned .ensures .next))))
-
-  assign-bracket : put-tree-lts.Need-put-byte-requires tree-claims (put-tree-at t) put-tree.Post
-  assign-bracket c κs =
-      let v = c .before .before .before in let x = v .before .before in let w = x .before .before .before in let a = w .before .before in
-      let k = a .before in let g = k .before .before in let (m, (o, h, room)) = entry g .pre in
-      let e = form g (k .enum-told6 .given .1) in
-      let d = put-more (w .put-assigned .ensures) (v .put-tree2 .ensures) in
-      omega (arith, room-rest (bytes ")") d (rw (assign-text o h (x .first-at2 .ensures) (a .arg-at2 .ensures) e) at room))
+      let (m, (o, h, room)) = entry g .pre in let e = form g (k .enum-told6 .given .1) in let p = x .first-at3 .ensures in
+      let j = children o h e in let last = textAt (now (entry g .args .b)) (x .first-at3 .result) ++ bytes ")" in
+      (omega arith, (o, omega arith, room-rest last (w .put-assigned .ensures) (rw (assign-text o h p (a .arg-at2 .ensures) e) at room)))
 
   assign : put-tree-lts.Need-returns-6 tree-claims (put-tree-at t) put-tree.Post
   assign c =
-      let u = c .before .before in let v = u .before .before .before .before in let x = v .before .before in let w = x .before .before .before in
-      let a = w .before .before in let k = a .before in let g = k .before .before in let (m, (o, h, room)) = entry g .pre in
-      let e = form g (k .enum-told6 .given .1) in
-      rw (assign-text o h (x .first-at2 .ensures) (a .arg-at2 .ensures) e)
-      (put-more (put-more (w .put-assigned .ensures) (v .put-tree2 .ensures)) (u .put-byte .ensures))
+      let v = c .before .before in let x = v .before .before in let w = x .before .before .before in let a = w .before .before in let k = a .before in
+      let g = k .before .before in let (m, (o, h, room)) = entry g .pre in let e = form g (k .enum-told6 .given .1) in
+      rw (assign-text o h (x .first-at3 .ensures) (a .arg-at2 .ensures) e) (put-more (w .put-assigned .ensures) (v .put-closed3 .ensures))
 
-pub +put-branches+put-right+put-tree+put-two+put-while-spec : {M : Type 1} → statement M
-+put-branches+put-right+put-tree+put-two+put-while-spec =
-    close μ-put-branches μ-put-right μ-put-tree μ-put-two μ-put-while
+pub +put-branches+put-closed+put-if+put-opened+put-tree+put-while-spec : {M : Type 1} → statement M
++put-branches+put-closed+put-if+put-opened+put-tree+put-while-spec =
+    close μ-put-branches μ-put-closed μ-put-if μ-put-opened μ-put-tree μ-put-while
     (λ t. put-branches-lts.spec
     (branches-claims t)
     (put-branches-at t)
@@ -437,15 +458,35 @@ pub +put-branches+put-right+put-tree+put-two+put-while-spec : {M : Type 1} → s
     (else-bracket t)
     (λ c. search needs)
     (both-branches t))
-    (λ t. put-right-lts.spec
-    (right-claims t)
-    (put-right-at t)
-    put-right.Post
-    (right-sign t)
-    (right-node t)
-    (right-bracket t)
+    (λ t. put-closed-lts.spec
+    (closed-claims t)
+    (put-closed-at t)
+    put-closed.Post
+    (closed-node t)
+    (closed-bracket t)
     (λ c. search needs)
-    (right t))
+    (closed t))
+    (λ t. put-if-lts.spec
+    (if-claims t)
+    (put-if-at t)
+    put-if.Post
+    (λ c. search needs)
+    (if-word t)
+    (λ c κs. search needs)
+    (if-test t)
+    (λ c κs. search needs)
+    (λ c κs. search needs)
+    (if-branches t)
+    (λ c. search needs)
+    (if-all t))
+    (λ t. put-opened-lts.spec
+    (opened-claims t)
+    (put-opened-at t)
+    put-opened.Post
+    (λ c κs. search needs)
+    (opened-node t)
+    (λ c. search needs)
+    (opened t))
     (λ t. put-tree-lts.spec
     (tree-claims t)
     (put-tree-at t)
@@ -458,24 +499,33 @@ pub +put-branches+put-right+put-tree+put-two+put-while-spec : {M : Type 1} → s
     (λ c κs. search needs)
     (boolean-room t)
     (λ c. search needs)
-    (λ c κs. let k = c .before in let g = k .before .before in let (m, (o, h, room)) = entry t g .pre in (omega arith, (o, h, room, form t g (k .enum-told3 .given .1))))
-    (λ c. search needs)
-    (λ c κs. let k = c .before in let g = k .before .before in let (m, (o, h, room)) = entry t g .pre in (omega arith, (o, h, room, form t g (k .enum-told4 .given .1))))
-    (λ c. search needs)
-    (λ c. search needs)
-    (if-word t)
     (λ c κs. search needs)
-    (if-test t)
+    (λ c κs. let x = c .before in let k = x .before in opens-two t (k .before .before) Plus (k .enum-told3 .given .1) (x .first-at .ensures))
+    (λ c. search needs)
+    (λ c κs. let w = c .before .before .before .before in let x = w .before .before in let k = x .before in room-for-sign t (k .before .before) Plus (k .enum-told3 .given .1) (x .first-at .ensures) (w .put-opened .ensures))
     (λ c κs. search needs)
+    (λ c κs.
+    let y = c .before in let u = y .before .before .before in let w = u .before .before .before .before .before in let x = w .before .before in
+    let k = x .before in
+    closes-two t (k .before .before) Plus (k .enum-told3 .given .1) (x .first-at .ensures) (y .second-at .ensures) (put-more (w .put-opened .ensures) (u .put-bytes .ensures)))
+    (λ c. search needs)
     (λ c κs. search needs)
-    (if-branches t)
+    (λ c κs. let x = c .before in let k = x .before in opens-two t (k .before .before) Geq (k .enum-told4 .given .1) (x .first-at2 .ensures))
+    (λ c. search needs)
+    (λ c κs. let w = c .before .before .before .before in let x = w .before .before in let k = x .before in room-for-sign t (k .before .before) Geq (k .enum-told4 .given .1) (x .first-at2 .ensures) (w .put-opened2 .ensures))
+    (λ c κs. search needs)
+    (λ c κs.
+    let y = c .before in let u = y .before .before .before in let w = u .before .before .before .before .before in let x = w .before .before in
+    let k = x .before in
+    closes-two t (k .before .before) Geq (k .enum-told4 .given .1) (x .first-at2 .ensures) (y .second-at2 .ensures) (put-more (w .put-opened2 .ensures) (u .put-bytes2 .ensures)))
+    (λ c. search needs)
+    (λ c κs. let k = c .before in let g = k .before .before in let (m, (o, h, room)) = entry t g .pre in (omega arith, (o, h, room, form t g (k .enum-told5 .given .1))))
     (λ c. search needs)
     (λ c κs. search needs)
     (λ c. search needs)
     (assign-location t)
     (λ c κs. search needs)
     (assign-value t)
-    (assign-bracket t)
     (λ c. search needs)
     (λ c κs. search needs)
     (λ c. search needs)
@@ -484,7 +534,15 @@ pub +put-branches+put-right+put-tree+put-two+put-while-spec : {M : Type 1} → s
     (λ c. search needs)
     (skip-room t)
     (λ c. search needs)
-    (λ c κs. let k = c .before in let g = k .before .before in let (m, (o, h, room)) = entry t g .pre in (omega arith, (o, h, room, form t g (k .enum-told9 .given .1))))
+    (λ c κs. search needs)
+    (λ c κs. let x = c .before in let k = x .before in opens-two t (k .before .before) Seq (k .enum-told9 .given .1) (x .first-at4 .ensures))
+    (λ c. search needs)
+    (λ c κs. let w = c .before .before .before .before in let x = w .before .before in let k = x .before in room-for-sign t (k .before .before) Seq (k .enum-told9 .given .1) (x .first-at4 .ensures) (w .put-opened3 .ensures))
+    (λ c κs. search needs)
+    (λ c κs.
+    let y = c .before in let u = y .before .before .before in let w = u .before .before .before .before .before in let x = w .before .before in
+    let k = x .before in
+    closes-two t (k .before .before) Seq (k .enum-told9 .given .1) (x .first-at4 .ensures) (y .second-at3 .ensures) (put-more (w .put-opened3 .ensures) (u .put-bytes4 .ensures)))
     (λ c. search needs)
     (λ c κs. let k = c .before in let g = k .before .before in let (m, (o, h, room)) = entry t g .pre in (omega arith, (o, h, room, form t g (k .enum-told10 .given .1))))
     (λ c. search needs)
@@ -493,11 +551,19 @@ pub +put-branches+put-right+put-tree+put-two+put-while-spec : {M : Type 1} → s
     (λ c. search needs)
     (boolean t)
     (λ c. search needs)
-    (λ c. c .before .before .put-two .ensures)
+    (λ c.
+    let v = c .before .before in let y = v .before .before in let u = y .before .before .before in
+    let w = u .before .before .before .before .before in let x = w .before .before in let k = x .before in
+    both t (k .before .before) Plus (k .enum-told3 .given .1) (x .first-at .ensures) (y .second-at .ensures)
+    (put-more (put-more (w .put-opened .ensures) (u .put-bytes .ensures)) (v .put-closed .ensures)))
     (λ c. search needs)
-    (λ c. c .before .before .put-two2 .ensures)
+    (λ c.
+    let v = c .before .before in let y = v .before .before in let u = y .before .before .before in
+    let w = u .before .before .before .before .before in let x = w .before .before in let k = x .before in
+    both t (k .before .before) Geq (k .enum-told4 .given .1) (x .first-at2 .ensures) (y .second-at2 .ensures)
+    (put-more (put-more (w .put-opened2 .ensures) (u .put-bytes2 .ensures)) (v .put-closed2 .ensures)))
     (λ c. search needs)
-    (if-all t)
+    (λ c. c .before .before .put-if .ensures)
     (λ c. search needs)
     (assign t)
     (λ c. search needs)
@@ -505,21 +571,14 @@ pub +put-branches+put-right+put-tree+put-two+put-while-spec : {M : Type 1} → s
     (λ c. search needs)
     (skip t)
     (λ c. search needs)
-    (λ c. c .before .before .put-two3 .ensures)
+    (λ c.
+    let v = c .before .before in let y = v .before .before in let u = y .before .before .before in
+    let w = u .before .before .before .before .before in let x = w .before .before in let k = x .before in
+    both t (k .before .before) Seq (k .enum-told9 .given .1) (x .first-at4 .ensures) (y .second-at3 .ensures)
+    (put-more (put-more (w .put-opened3 .ensures) (u .put-bytes4 .ensures)) (v .put-closed4 .ensures)))
     (λ c. search needs)
     (λ c. c .before .before .put-while .ensures)
     (λ c. let g = c .before .before in let s = entry t g in absurd (children (s .pre .1 .0) (s .pre .1 .1) (form t g (c .enum-told11 .given .1)))))
-    (λ t. put-two-lts.spec
-    (two-claims t)
-    (put-two-at t)
-    put-two.Post
-    (two-bracket t)
-    (λ c κs. search needs)
-    (two-first t)
-    (λ c κs. search needs)
-    (two-right t)
-    (λ c. search needs)
-    (two t))
     (λ t. put-while-lts.spec
     (while-claims t)
     (put-while-at t)
