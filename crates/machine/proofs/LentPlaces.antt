@@ -27,26 +27,27 @@ place-back (Again i) = refl
 place-back (Store l) = refl
 place-back (First j) = refl
 
--- the slice has three numbers for each place
-pub frames-fit : (ps : List ℕ) → 3 * length (framesOf ps) ≤ length ps
+-- the slice has four numbers for each place
+pub frames-fit : (ps : List ℕ) → 4 * length (framesOf ps) ≤ length ps
 frames-fit [] = omega arith
 frames-fit (t ∷ []) = omega arith
 frames-fit (t ∷ i ∷ []) = omega arith
-frames-fit (t ∷ i ∷ u ∷ ps) = omega (arith, frames-fit ps)
+frames-fit (t ∷ i ∷ u ∷ []) = omega arith
+frames-fit (t ∷ i ∷ u ∷ v ∷ ps) = omega (arith, frames-fit ps)
 
 -- where the numbers of a place begin, as the list has them
 abbrev from : ℕ → ℕ
 from zero = zero
-from (suc at) = suc (suc (suc (from at)))
+from (suc at) = suc (suc (suc (suc (from at))))
 
-from-is : (at : ℕ) → from at ≡ 3 * at
+from-is : (at : ℕ) → from at ≡ 4 * at
 from-is zero = refl
 from-is (suc at) = omega (arith, from-is at)
 
-second-is : (at : ℕ) → suc (from at) ≡ 3 * at + 1
+second-is : (at : ℕ) → suc (from at) ≡ 4 * at + 1
 second-is at = omega (arith, from-is at)
 
-third-is : (at : ℕ) → suc (suc (from at)) ≡ 3 * at + 2
+third-is : (at : ℕ) → suc (suc (from at)) ≡ 4 * at + 2
 third-is at = omega (arith, from-is at)
 
 read-from : (ps : List ℕ) (at : ℕ) → at < length (framesOf ps)
@@ -54,12 +55,13 @@ read-from : (ps : List ℕ) (at : ℕ) → at < length (framesOf ps)
 read-from [] at h = absurd (omega arith)
 read-from (t ∷ []) at h = absurd (omega arith)
 read-from (t ∷ i ∷ []) at h = absurd (omega arith)
-read-from (t ∷ i ∷ u ∷ ps) zero h = refl
-read-from (t ∷ i ∷ u ∷ ps) (suc at) h = read-from ps at (omega arith)
+read-from (t ∷ i ∷ u ∷ []) at h = absurd (omega arith)
+read-from (t ∷ i ∷ u ∷ v ∷ ps) zero h = refl
+read-from (t ∷ i ∷ u ∷ v ∷ ps) (suc at) h = read-from ps at (omega arith)
 
 -- the place that is read from the slice
 pub place-read : (ps : List ℕ) (at : ℕ) → at < length (framesOf ps)
-    → getD (framesOf ps) at blank .place ≡ placeOf (getD ps (3 * at) 0) (getD ps (3 * at + 1) 0) (signed (getD ps (3 * at + 2) 0))
+    → getD (framesOf ps) at blank .place ≡ placeOf (getD ps (4 * at) 0) (getD ps (4 * at + 1) 0) (signed (getD ps (4 * at + 2) 0))
 place-read ps at h = rw (← third-is at, ← second-is at, ← from-is at) (read-from ps at h)
 
 set-from : (ps : List ℕ) (at t i u : ℕ) → at < length (framesOf ps)
@@ -67,13 +69,14 @@ set-from : (ps : List ℕ) (at t i u : ℕ) → at < length (framesOf ps)
 set-from [] at t i u h = absurd (omega arith)
 set-from (x ∷ []) at t i u h = absurd (omega arith)
 set-from (x ∷ y ∷ []) at t i u h = absurd (omega arith)
-set-from (x ∷ y ∷ z ∷ ps) zero t i u h = refl
-set-from (x ∷ y ∷ z ∷ ps) (suc at) t i u h = ap (λ (fs : List Frame). record { place = placeOf x y (signed z) } ∷ fs) (set-from ps at t i u (omega arith))
+set-from (x ∷ y ∷ z ∷ []) at t i u h = absurd (omega arith)
+set-from (x ∷ y ∷ z ∷ v ∷ ps) zero t i u h = refl
+set-from (x ∷ y ∷ z ∷ v ∷ ps) (suc at) t i u h = ap (λ (fs : List Frame). record { place = placeOf x y (signed z) } ∷ fs) (set-from ps at t i u (omega arith))
 
 -- the places after one is stored in the slice
 pub place-stored : (ps : List ℕ) (at : ℕ) (f : Place) {t i u : ℕ} {n : ℤ} → at < length (framesOf ps)
     → t ≡ tagOf f → i ≡ numberIn f → n ≡ integerIn f → SFits w32 n → u ≡ unsigned n
-    → framesOf (set (set (set ps (3 * at) t) (3 * at + 1) i) (3 * at + 2) u) ≡ set (framesOf ps) at (record { place = f })
+    → framesOf (set (set (set ps (4 * at) t) (4 * at + 1) i) (4 * at + 2) u) ≡ set (framesOf ps) at (record { place = f })
 place-stored ps at f {t} {i} {u} {n} h e₁ e₂ e₃ fits e₄ =
     let e₅ : signed u ≡ integerIn f = ap signed e₄ ∙ signed-unsigned n (mag-in-range n (fits .sfits)) ∙ e₃ in
     let q : placeOf t i (signed u) ≡ f = (λ j. placeOf (e₁ j) (e₂ j) (e₅ j)) ∙ place-back f in

@@ -1,5 +1,5 @@
--- The pending places in a lent slice of numbers, three a place: a tag for the kind of the place, its node or location, and the bits of the integer
--- that it holds.
+-- The pending places in a lent slice of numbers, four a place: a tag for the kind of the place, its node or location, the bits of the integer
+-- that it holds, and one that is not used.
 use Prim.Native.Nat.{ℕ}
 use mathlib.Core.List.{List, [], _∷_}
 use lib.IntN.{ℤ, pos}
@@ -54,7 +54,8 @@ abbrev pub framesOf : List ℕ → List Frame
 framesOf [] = []
 framesOf (t ∷ []) = []
 framesOf (t ∷ i ∷ []) = []
-framesOf (t ∷ i ∷ u ∷ ps) = record { place = placeOf t i (signed u) } ∷ framesOf ps
+framesOf (t ∷ i ∷ u ∷ []) = []
+framesOf (t ∷ i ∷ u ∷ v ∷ ps) = record { place = placeOf t i (signed u) } ∷ framesOf ps
 
 abbrev pub pendingOf : List ℕ → ℕ → Pending
 pendingOf ps h = record { frames = framesOf ps; height = h }

@@ -1,7 +1,8 @@
 // The pending places in one lent slice of numbers, and the machine from one moment on to another with its places there.
 //
 // `go_on` holds its places by value, as frames. What shows every moment of a run would copy all 256 of them at each step: here they are lent,
-// and nothing is copied. A place is three numbers: its tag, its node or location, and the bits of its integer.
+// and nothing is copied. A place is four numbers: its tag, its node or location, the bits of its integer, and one that is not used. With three the
+// address of a place is a product, and `moment_text::moment_length`, which reads the tag and the number of each place, is slower by a tenth.
 ghost use mathlib.Core.Path.{_≡_};
 ghost use Prim.Native.Nat.{_+_, _*_, _≤_, _<_};
 ghost use lib.ListN.{length, getD, set};
@@ -94,28 +95,28 @@ fn place_of(tag: u32, i: u32, n: i32) -> Place
     }
 }
 
-// The first of a place's three numbers, by which the places are told apart.
+// The first of a place's numbers, by which the places are told apart.
 pub fn tag_at(places: &[u32], at: usize) -> u32
-    requires { ⌜ 3 * at + 2 < length (now places) ⌝ }
-    ensures { λ r. ⌜ r ≡ getD (now (places .entry)) (3 * at) 0 ⌝ }
+    requires { ⌜ 4 * at + 2 < length (now places) ⌝ }
+    ensures { λ r. ⌜ r ≡ getD (now (places .entry)) (4 * at) 0 ⌝ }
 {
-    places[3 * at]
+    places[4 * at]
 }
 
 // The second: its node, or the location that it writes.
 pub fn number_at(places: &[u32], at: usize) -> u32
-    requires { ⌜ 3 * at + 2 < length (now places) ⌝ }
-    ensures { λ r. ⌜ r ≡ getD (now (places .entry)) (3 * at + 1) 0 ⌝ }
+    requires { ⌜ 4 * at + 2 < length (now places) ⌝ }
+    ensures { λ r. ⌜ r ≡ getD (now (places .entry)) (4 * at + 1) 0 ⌝ }
 {
-    places[3 * at + 1]
+    places[4 * at + 1]
 }
 
 // The third: the bits of its integer.
 fn bits_at(places: &[u32], at: usize) -> u32
-    requires { ⌜ 3 * at + 2 < length (now places) ⌝ }
-    ensures { λ r. ⌜ r ≡ getD (now (places .entry)) (3 * at + 2) 0 ⌝ }
+    requires { ⌜ 4 * at + 2 < length (now places) ⌝ }
+    ensures { λ r. ⌜ r ≡ getD (now (places .entry)) (4 * at + 2) 0 ⌝ }
 {
-    places[3 * at + 2]
+    places[4 * at + 2]
 }
 
 pub fn place_at(places: &[u32], at: usize) -> Place
@@ -127,12 +128,12 @@ pub fn place_at(places: &[u32], at: usize) -> Place
 }
 
 fn put_numbers(places: &mut [u32], at: usize, tag: u32, i: u32, bits: u32)
-    requires { ⌜ 3 * at + 2 < length (now places) ⌝ }
-    ensures { λ r. ⌜ now (places .exit) ≡ set (set (set (now (places .entry)) (3 * at) tag) (3 * at + 1) i) (3 * at + 2) bits ⌝ }
+    requires { ⌜ 4 * at + 2 < length (now places) ⌝ }
+    ensures { λ r. ⌜ now (places .exit) ≡ set (set (set (now (places .entry)) (4 * at) tag) (4 * at + 1) i) (4 * at + 2) bits ⌝ }
 {
-    places[3 * at] = tag;
-    places[3 * at + 1] = i;
-    places[3 * at + 2] = bits;
+    places[4 * at] = tag;
+    places[4 * at + 1] = i;
+    places[4 * at + 2] = bits;
 }
 
 pub fn put_place(places: &mut [u32], at: usize, f: Place)

@@ -195,6 +195,7 @@ fn work_length(b: &[u8], x: Work, lengths: &[u32]) -> usize
     }
 }
 
+// The places are passed from the last one down, which is an instruction less for each of them.
 pub fn moment_length(
     b: &[u8],
     z: Sizes,
@@ -207,10 +208,10 @@ pub fn moment_length(
     ensures { λ r. ⌜ (r ≡ length (momentText (now (b .entry)) (now (places .entry)) h x)) × (r < 1000000000) ⌝ }
 {
     let mut r = work_length(b, x, lengths);
-    let mut j = 0;
-    while j < h {
-        r += lent_length(b, z, places, j, lengths);
-        j += 1;
+    let mut left = h;
+    while 0 < left {
+        left -= 1;
+        r += lent_length(b, z, places, left, lengths);
     }
     r
 }

@@ -75,7 +75,7 @@ fn text_typed(b: &[u8], z: Sizes, s: &[i32], k: u32, buf: &mut [u8]) -> Wrote
     let mut entries = [0i32; 64];
     let store = &mut entries[..m];
     copy(s, store);
-    let mut places = [0u32; 768];
+    let mut places = [0u32; 1024];
     let mut lengths = [0u32; 4096];
     show(b, z, store, k, &mut places, &mut lengths, buf)
 }

@@ -61,7 +61,7 @@ fn print_run(input: &[u8], z: Sizes, buf: &mut [u8]) -> bool
     let fuel = trace_input::fuel_in(input) as u64;
     let mut lengths = [0u32; 4096];
     node_text::measure(b, z, &mut lengths);
-    let mut places = [0u32; 768];
+    let mut places = [0u32; 1024];
     let first = trace_lines::first_page(b, z, &mut places, s, fuel, &lengths, buf);
     print_pages(b, z, &mut places, first, s, fuel, &lengths, buf)
 }

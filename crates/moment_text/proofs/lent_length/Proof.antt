@@ -17,18 +17,18 @@ use Rattle.moment_text.proofs.lent_length.Tie as tie
 abbrev entry : tie.After-tag-at → tie.Start
 entry c = c .before .before .before .before
 
--- the three numbers of the place are in the slice
-lent : (s : tie.Start) → 3 * s .args .j + 2 < length (now (s .args .places))
+-- the numbers of the place are in the slice
+lent : (s : tie.Start) → 4 * s .args .j + 2 < length (now (s .args .places))
 lent s = omega (arith, frames-fit (now (s .args .places)), s .pre .1)
 
 -- the tag 8 is that of a first part, and its node is a node of the routine
-first-is : (c : tie.Then1) → let a = entry (c .before) .args in placeIn (now (a .places)) (a .j) ≡ First (getD (now (a .places)) (3 * a .j + 1) 0)
+first-is : (c : tie.Then1) → let a = entry (c .before) .args in placeIn (now (a .places)) (a .j) ≡ First (getD (now (a .places)) (4 * a .j + 1) 0)
 first-is c =
     let s = entry (c .before) in
     let e = sym (c .before .tag-at .ensures) ∙ c .if1 .taken in
     rw e at (place-read (now (s .args .places)) (s .args .j) (s .pre .1))
 
-is-node : (c : tie.Then1) → let a = entry (c .before) .args in getD (now (a .places)) (3 * a .j + 1) 0 < count (now (a .b))
+is-node : (c : tie.Then1) → let a = entry (c .before) .args in getD (now (a .places)) (4 * a .j + 1) 0 < count (now (a .b))
 is-node c = subst (Held _) (first-is c) (entry (c .before) .pre .2)
 
 first-part : tie.Need-returns

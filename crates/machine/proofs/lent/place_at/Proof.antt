@@ -1,4 +1,4 @@
--- `machine::place_at` meets its contract: the three numbers are those of the frame.
+-- `machine::place_at` meets its contract: the numbers are those of the frame.
 use native.Mathlib.Omega.{arith}
 use mathlib.Core.Path.{sym, ap, _∙_}
 use mir.Syntax.{w32}

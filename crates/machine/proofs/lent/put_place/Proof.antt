@@ -1,4 +1,4 @@
--- `machine::put_place` meets its contract: the three numbers that are stored are those of the place.
+-- `machine::put_place` meets its contract: the numbers that are stored are those of the place.
 use native.Mathlib.Omega.{arith}
 use mathlib.Core.Path.{ap, _∙_}
 use borrow.Author.Needs.{needs}
