@@ -1,4 +1,4 @@
-// The admission of a row: opening, types, and then what is lent with it. Whoever does something with a row asks here first, and for no other tests.
+// The admission of a row: opening, types, and then what is lent with it. The run, the text and `trace` ask here first.
 ghost use mathlib.Core.Path.{_≡_};
 ghost use Rattle.routine.specs.Open.{IsOpen};
 ghost use Rattle.checker.specs.Admits.{sufficesOf, lackingOf, AdmissionSays};

@@ -1,5 +1,5 @@
 // Checks a stored routine against the typing rules: refusals 1 to 9 and 20 to 23, else its type, W, and its read and write sets.
-pub mod admission; // admission.rt: opening, types and what is lent with a row, for all that do something with it
+pub mod admission; // admission.rt: opening, types and what is lent with a row
 
 ghost use mathlib.Core.Path.{_≡_};
 ghost use mathlib.Core.Bool.{_||_, cond};
@@ -259,7 +259,7 @@ fn check_open(b: &[u8], z: Sizes) -> Checked
 }
 
 // Refusals 1 to 9 and 20 to 23, or what the accepted routine tells: the admission with nothing lent, without its copies, which cost a row of
-// every day 4 % of its time.
+// every day 4 % of its time (measured on Arm).
 pub fn check(b: &[u8]) -> Checked
     ensures { λ r. ⌜ Checks (now (b .entry)) (checkedOf r) ⌝ }
 {
