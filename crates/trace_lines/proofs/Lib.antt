@@ -3,4 +3,3 @@ pub mod FirstLine  -- the first line, and the whole of them
 pub mod NextLine  -- which line comes next
 pub mod LineParts  -- the lines in the parts that are written one after the other
 pub mod Telling  -- lines that are told after other lines
-pub mod RefusedLines  -- the line of a refusal, with and without what it also returns

@@ -1,5 +1,4 @@
 // The lines that `trace` prints of a run, one after the other, into a lent buffer. It goes on from the last moment, and never starts again.
-pub mod refused; // refused.rt: the line of a refusal
 
 ghost use mathlib.Core.Path.{_≡_};
 ghost use mathlib.Core.List.{List, [], _++_};

@@ -72,7 +72,7 @@ pub fn print(input: &[u8], buf: &mut [u8]) -> bool
 {
     match trace_input::take_in(input) {
         Taken::Refused(r) => {
-            let end = trace_lines::refused::put_refusal(r, buf, 0);
+            let end = refused_line::put_refusal(r, buf, 0);
             io::write_all(STDOUT_FILENO, &buf[..end])
         }
         Taken::Good(z) => print_run(input, z, buf),
