@@ -9,7 +9,7 @@ use Rattle.exports.specs.declared.Answer.{Answer}
 use Rattle.exports.specs.Says.{Handed, answerOf, outOf, Says, SaysCheck, SaysRun, SaysText}
 
 -- where what is allowed is one, so is what is said
-one-said : {A : Type 0} {allowed allowed′ : A → Type 0} {told : A → Handed} {out o o′ : List ℕ} {r r′ : Answer}
+pub one-said : {A : Type 0} {allowed allowed′ : A → Type 0} {told : A → Handed} {out o o′ : List ℕ} {r r′ : Answer}
     → (x : Says allowed told out r o) (y : Says allowed′ told out r′ o′) → x .answer ≡ y .answer → (r ≡ r′) × (o ≡ o′)
 one-said {A = A} {told = told} {out = out} x y q = (
   x .is-returned ∙ ap (λ (a : A). answerOf (told a)) q ∙ sym (y .is-returned),

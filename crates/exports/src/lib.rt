@@ -1,4 +1,4 @@
-// The check and the run, for C and Rust to call; the text stands in exported_text. `rigvanesh.h` says in C's words what they are.
+// The check and the run, for C and Rust to call; the text stands in exported_text, reading and writing in exported_reading. `rigvanesh.h` says in C's words what they are.
 ghost use mathlib.Core.Path.{_≡_};
 ghost use Rattle.l1.specs.Judge.{typeNo};
 ghost use Rattle.routine.specs.Says.{refusalOf};
