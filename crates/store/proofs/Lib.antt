@@ -1,0 +1,2 @@
+-- The laws of `store`.
+pub mod Within  -- the number of a word is within its limit
