@@ -20,20 +20,22 @@ pub fn print_signed(n: i32) -> bool {
     }
 }
 
-// `refused C`, with ` at N` for 7 and 20 to 23 and ` needs N` for 32.
-pub fn print_refusal(r: Refusal) -> bool {
-    let c = routine::number_of(r);
-    let n = routine::returned_by(r);
+// `refused C`, with ` at N` for a node or an offset and ` needs N` for a length.
+pub fn print_refused(c: u64, n: u64) -> bool {
     if !(print(b"refused") && print_number(c)) {
         return false;
     }
-    if (c == 7) | ((20 <= c) & (c <= 23)) {
+    if (c == 7) | (((20 <= c) & (c <= 23)) | ((50 <= c) & (c <= 52))) {
         print(b" at") && print_number(n)
-    } else if c == 32 {
+    } else if (c == 32) | (c == 53) {
         print(b" needs") && print_number(n)
     } else {
         true
     }
+}
+
+pub fn print_refusal(r: Refusal) -> bool {
+    print_refused(routine::number_of(r), routine::returned_by(r))
 }
 
 // The line of a record that is not answered.

@@ -6,30 +6,38 @@ ghost use lib.ListN.{length};
 use record::Head;
 
 mod checks;
+mod lent;
 mod line;
+mod nests;
 mod record;
 mod runs;
+mod stores;
 mod texts;
+mod writes;
 
 // Answers a record's question. The input is what `trace` would read: the row, the fuel and the values.
 fn answer(h: Head, input: &[u8], store: &mut [i32], buf: &mut [u8]) -> bool
-    requires { ⌜ (h .bytes ≤ length (now input)) × (20000 ≤ length (now buf)) ⌝ }
+    requires { ⌜ (h .bytes ≤ length (now input)) × (h .bytes ≤ 65535) × (65536 ≤ length (now buf)) ⌝ }
 {
-    let bytes = h.bytes;
+    let row = &input[..h.bytes];
     let fuel = h.fuel;
     let question = h.question;
+    let lent = record::lent(fuel);
     match question {
-        b'c' => checks::answer(&input[..bytes]),
-        b'r' => runs::answer(&input[..bytes], store, fuel),
-        b'x' => texts::answer(&input[..bytes], store, fuel, buf),
+        b'c' => checks::answer(row),
+        b'r' => runs::answer(row, store, fuel),
+        b'x' => texts::answer(row, store, fuel, buf),
         b't' => trace_output::print(input, buf),
+        b's' => stores::answer(row, h.entries, &mut buf[..lent]),
+        b'n' => nests::answer(row, fuel as u64, h.entries, buf),
+        b'w' => writes::answer(row, &mut buf[..lent]),
         _ => line::print_fault(b"unknown question", question as u64),
     }
 }
 
 // Reads one record and answers it; false where the program ends.
 fn one_record(room: &mut [u8], store: &mut [i32], buf: &mut [u8]) -> bool
-    requires { ⌜ (70000 ≤ length (now room)) × (1000 ≤ length (now store)) × (20000 ≤ length (now buf)) ⌝ }
+    requires { ⌜ (70000 ≤ length (now room)) × (1000 ≤ length (now store)) × (65536 ≤ length (now buf)) ⌝ }
 {
     let mut head = [0u8; 9];
     if !record::take_head(&mut head) {

@@ -90,3 +90,10 @@ pub fn put_fuel(head: &[u8], room: &mut [u8], at: usize)
     room[at + 2] = head[5];
     room[at + 3] = head[6];
 }
+
+// The bytes that are lent for a row or a text, by the fuel's field.
+pub fn lent(fuel: u32) -> usize
+    ensures { λ r. ⌜ r ≤ 65536 ⌝ }
+{
+    if fuel < 65536 { fuel as usize } else { 65536 }
+}

@@ -3,37 +3,15 @@
 // refusal: any byte) is no longer what it was.
 ghost use Prim.Native.Nat.{_≤_};
 ghost use lib.ListN.{length};
+use crate::lent;
 use crate::line;
 use libc::STDOUT_FILENO;
 use text_after::Wrote;
-
-// What each byte of a buffer is before a call.
-const UNTOUCHED: u8 = 35;
 
 // What a call left: the text's length, 0 after a refusal, and whether its line was printed.
 struct Called {
     length: usize,
     printed: bool,
-}
-
-fn blank(buf: &mut [u8]) {
-    let mut i = 0;
-    while i < buf.len() {
-        buf[i] = UNTOUCHED;
-        i += 1;
-    }
-}
-
-// Whether a byte from `at` on is not what it was before the call.
-fn changed(buf: &[u8], at: usize) -> bool {
-    let mut i = at;
-    while i < buf.len() {
-        if buf[i] != UNTOUCHED {
-            return true;
-        }
-        i += 1;
-    }
-    false
 }
 
 fn print_written(text: &[u8], steps: u64) -> bool {
@@ -62,25 +40,16 @@ fn print_text(row: &[u8], s: &[i32], k: u32, buf: &mut [u8]) -> Called
     }
 }
 
-// Prints the end of a call's line.
-fn print_rest(buf: &[u8], at: usize) -> bool {
-    if changed(buf, at) {
-        line::print(b" changed\n")
-    } else {
-        line::print(b"\n")
-    }
-}
-
 // Makes one call on a blank buffer and prints its line.
 fn print_call(row: &[u8], s: &[i32], k: u32, buf: &mut [u8]) -> Called
     ensures { λ r. ⌜ r .length ≤ length (now (buf .entry)) ⌝ }
 {
-    blank(buf);
+    lent::blank(buf);
     let called = print_text(row, s, k, buf);
     let n = called.length;
     Called {
         length: n,
-        printed: called.printed && print_rest(buf, n),
+        printed: called.printed && lent::print_rest(buf, n),
     }
 }
 

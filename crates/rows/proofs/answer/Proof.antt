@@ -1,4 +1,4 @@
--- `rows::answer` is safe: the row lies in the room.
+-- `rows::answer` is safe: the row lies in the room, and the lent bytes in the buffer.
 use native.Mathlib.Omega.{arith}
 use lib.ListN.{length-take}
 use borrow.Author.Needs.{needs}
@@ -11,14 +11,27 @@ answer-spec =
     (tie.spec
     (λ c. simp length-take (omega arith))
     (λ c κs. search needs)
+    (λ c κs. search needs)
+    (λ c κs. search needs)
+    (λ c κs. search needs)
+    (λ c κs. search needs)
+    (λ c. search needs)
     (λ c. simp length-take (omega arith))
     (λ c κs. search needs)
+    (λ c. search needs)
+    (λ c κs. (simp length-take (omega arith), search needs))
+    (λ c. search needs)
     (λ c. simp length-take (omega arith))
-    (λ c κs. search needs)
     (λ c κs. search needs)
     (λ c. search needs)
     (λ c. search needs)
     (λ c κs. search needs)
+    (λ c. search needs)
+    (λ c. search needs)
+    (λ c. search needs)
+    (λ c. search needs)
+    (λ c. search needs)
+    (λ c. search needs)
     (λ c. search needs)
     (λ c. search needs)
     (λ c. search needs)

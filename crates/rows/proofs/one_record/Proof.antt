@@ -44,7 +44,7 @@ one-record-spec =
     (λ c κs. simp length-take (omega arith))
     (λ c. search needs)
     (λ c. simp length-take (omega arith))
-    (λ c κs. (simp length-take (omega arith), search needs))
+    (λ c κs. (simp length-take (omega arith), search needs, search needs))
     (λ c. search needs)
     (λ c. search needs)
     (λ c. search needs)

@@ -1,10 +1,10 @@
--- `rows::texts::changed` is safe and ends.
+-- `rows::lent::changed` is safe and ends.
 use Prim.Native.Nat.{_≤_, _-_}
 use native.Mathlib.Omega.{arith}
 use borrow.Author.Needs.{needs}
 use lib.ListN.{length}
-use Rattle.rows.proofs.texts.changed.Statement.{statement}
-use Rattle.rows.proofs.texts.changed.Tie as tie
+use Rattle.rows.proofs.lent.changed.Statement.{statement}
+use Rattle.rows.proofs.lent.changed.Tie as tie
 
 abbrev Inv-loop : tie.InvT-loop
 Inv-loop buf at i₀ i = at ≤ i

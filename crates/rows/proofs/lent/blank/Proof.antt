@@ -1,11 +1,11 @@
--- `rows::texts::blank` is safe and ends.
+-- `rows::lent::blank` is safe and ends.
 use Prim.Native.Nat.{_≤_, _-_}
 use native.Mathlib.Omega.{arith}
 use mathlib.Core.Path.{_≡_}
 use borrow.Author.Needs.{needs}
 use lib.ListN.{length, length-set}
-use Rattle.rows.proofs.texts.blank.Statement.{statement}
-use Rattle.rows.proofs.texts.blank.Tie as tie
+use Rattle.rows.proofs.lent.blank.Statement.{statement}
+use Rattle.rows.proofs.lent.blank.Tie as tie
 
 abbrev Inv-loop : tie.InvT-loop
 Inv-loop buf₀ i₀ buf i = (length buf ≡ length buf₀) × (i ≤ length buf)
