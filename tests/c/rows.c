@@ -1,8 +1,10 @@
 /* Calls the exported functions over a rows file on standard input and prints the lines that the reference prints for it: of a record that asks for the
- * check (c), the run (r) or the text (x); one that asks for the trace (t) is passed over. What is lent is filled before each call, and ` changed` ends the line
- * of a call that changed what it may not: after a refusal anything at all, else a byte behind the text, or the store of a text.
+ * check (c), the run (r), the text (x), that a text is stored (s) or that a row is written (w); one that asks for the trace (t) or that a long text is stored (n) is passed
+ * over. What is lent is filled before each call, and ` changed` ends the line of a call that changed what it may not: after a refusal anything at all, else a byte behind
+ * the text or the row, or the store of a text.
  *
- * A record is 1 byte of question, 2 bytes R, 4 bytes of fuel (or k), 2 bytes E, E entries of 4 bytes and the R bytes of the row, all big-endian.
+ * A record is 1 byte of question, 2 bytes R, 4 bytes of fuel (or k, or the room that is lent), 2 bytes E, E entries of 4 bytes and the R bytes of the row (or the text, and
+ * E is m), all big-endian.
  */
 #include "rigvanesh.h"
 #include <stdbool.h>
@@ -95,9 +97,13 @@ static void print_refusal(struct rigvanesh_answer answer)
     case RIGVANESH_FIRST:
     case RIGVANESH_SECOND:
     case RIGVANESH_BRANCHES:
+    case RIGVANESH_FORM:
+    case RIGVANESH_INTEGER:
+    case RIGVANESH_LOCATION:
         printf(" at %llu", (unsigned long long)answer.also);
         break;
     case RIGVANESH_BUFFER:
+    case RIGVANESH_ROOM:
         printf(" needs %llu", (unsigned long long)answer.also);
         break;
     default:
@@ -187,6 +193,53 @@ static void print_texts(void)
     }
 }
 
+/* The room that the record lends. */
+static size_t lent_room(void)
+{
+    return record.fuel < MOST ? record.fuel : MOST;
+}
+
+/* The line of an answer whose out[0] is how many bytes stand at the start of the buffer: these bytes as text, or in hexadecimal digits. */
+static void print_written(struct rigvanesh_answer answer, bool in_digits)
+{
+    if (answer.number != RIGVANESH_ACCEPTED) {
+        print_refusal(answer);
+    } else {
+        size_t length = out[0] <= sizeof buffer ? out[0] : 0;
+        printf("%llu ", (unsigned long long)out[0]);
+        if (in_digits)
+            for (size_t i = 0; i < length; i++)
+                printf("%02x", buffer[i]);
+        else
+            fwrite(buffer, 1, length, stdout);
+        if (!is_filled(buffer + length, sizeof buffer - length) || !is_filled(out + 1, 3 * sizeof *out))
+            fputs(" changed", stdout);
+        print_odd(answer.also != 0);
+    }
+    putchar('\n');
+}
+
+/* m has 64 bits here and 16 in a record: one that is over 64 only by its upper half is refused by 4, and changes nothing. */
+static bool is_wide_m_refused(void)
+{
+    fill();
+    struct rigvanesh_answer answer = rigvanesh_read(row(), record.bytes, (uint64_t)1 << 32 | record.entries, lent(buffer, lent_room()), lent_room(), out);
+    return answer.number == RIGVANESH_LOCATIONS && answer.also == 0 && is_filled(out, sizeof out) && is_filled(buffer, sizeof buffer);
+}
+
+static void print_read(void)
+{
+    print_odd(!is_wide_m_refused());
+    fill();
+    print_written(rigvanesh_read(row(), record.bytes, record.entries, lent(buffer, lent_room()), lent_room(), out), true);
+}
+
+static void print_write(void)
+{
+    fill();
+    print_written(rigvanesh_write(row(), record.bytes, lent(buffer, lent_room()), lent_room(), out), false);
+}
+
 int main(void)
 {
     while (next_record()) {
@@ -194,6 +247,8 @@ int main(void)
         case 'c': print_check(); break;
         case 'r': print_run(); break;
         case 'x': print_texts(); break;
+        case 's': print_read(); break;
+        case 'w': print_write(); break;
         }
     }
     return 0;

@@ -1,5 +1,8 @@
-//! `answers`: the lines for each record of a rows file. A record is asked one question: `c` check, `r` run, `x` text, `t` trace.
+//! `answers`: the lines for each record of a rows file. A record is asked one question: `c` check, `r` run, `x` text, `t` trace, `s` store, `n` store a
+//! long text, `w` write.
 
+use crate::long;
+use crate::reading;
 use crate::refusal::Refusal;
 use crate::rows::{self, Record, Row};
 use crate::run;
@@ -7,7 +10,7 @@ use crate::trace;
 use crate::typing::{self, Type};
 use std::io::{self, Write};
 
-/// The first room of a text.
+/// The first room of a text, and the most that a record lends.
 const LARGE_ROOM: usize = 65_536;
 
 pub fn answers(file: &[u8], out: &mut impl Write) -> io::Result<()> {
@@ -20,6 +23,9 @@ fn answer(record: &Record, out: &mut impl Write) -> io::Result<()> {
         Record::Asks(b'r', row) => line(run_line(row), out),
         Record::Asks(b'x', row) => text_lines(row, out),
         Record::Asks(b't', row) => trace::trace(&rows::whole_input(row), out),
+        Record::Asks(b's', row) => line(store_line(row), out),
+        Record::Asks(b'n', row) => line(long_line(row), out),
+        Record::Asks(b'w', row) => line(write_line(row), out),
         Record::Asks(question, _) => writeln!(out, "unknown question {question}"),
         Record::TooManyEntries(entries) => writeln!(out, "too many entries {entries}"),
         Record::Cut => writeln!(out, "cut record"),
@@ -61,4 +67,33 @@ fn text_lines(row: &Row, out: &mut impl Write) -> io::Result<()> {
         rooms.extend([text.len() - 1, text.len()]);
     }
     rooms.into_iter().try_for_each(|room| line(text_line(row, room), out))
+}
+
+/// The room that the row's fuel says.
+fn lent(row: &Row) -> usize {
+    (row.fuel as usize).min(LARGE_ROOM)
+}
+
+/// The row's bytes are a text, and m is the number of its entries.
+fn store_line(row: &Row) -> Result<String, Refusal> {
+    stored_line(&row.bytes, row.store.len(), lent(row))
+}
+
+fn stored_line(text: &[u8], m: usize, room: usize) -> Result<String, Refusal> {
+    let stored = reading::store(text, m, room)?;
+    let digits: String = stored.iter().map(|byte| format!("{byte:02x}")).collect();
+    Ok(format!("{} {digits}", stored.len()))
+}
+
+/// The row's bytes are the parts of a text, and the fuel is k.
+fn long_line(row: &Row) -> Result<String, Refusal> {
+    match long::text(&row.bytes, row.fuel) {
+        Ok(text) => stored_line(&text, row.store.len(), LARGE_ROOM),
+        Err(length) => Ok(format!("too long {length}")),
+    }
+}
+
+fn write_line(row: &Row) -> Result<String, Refusal> {
+    let text = reading::write(&row.bytes, lent(row))?;
+    Ok(format!("{} {text}", text.len()))
 }

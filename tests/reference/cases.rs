@@ -69,7 +69,7 @@ fn mistakes() -> Vec<Case> {
 }
 
 /// n nodes: assignments in a balanced sequence, so that the depth is small.
-fn wide(n: usize) -> Tree {
+pub fn wide(n: usize) -> Tree {
     match n {
         1 => skip(),
         2 => assign(0, int(1)),
@@ -80,11 +80,11 @@ fn wide(n: usize) -> Tree {
     }
 }
 
-fn left_deep(depth: usize) -> Tree {
+pub fn left_deep(depth: usize) -> Tree {
     (1..depth).fold(int(1), |e, _| plus(e, int(0)))
 }
 
-fn right_deep(depth: usize) -> Tree {
+pub fn right_deep(depth: usize) -> Tree {
     (1..depth).fold(int(1), |e, _| plus(int(0), e))
 }
 

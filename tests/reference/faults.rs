@@ -3,7 +3,7 @@
 
 use crate::build::*;
 use crate::routine::store_routine;
-use crate::rows::{record, Row, MOST_ENTRIES, QUESTIONS};
+use crate::rows::{record, Row, ALL_QUESTIONS, MOST_ENTRIES};
 
 /// The row of 01's worked example, on a store of so many entries.
 fn setting(entries: usize) -> Row {
@@ -12,13 +12,28 @@ fn setting(entries: usize) -> Row {
     Row { bytes: store_routine(1, &assign(0, plus(deref(0), int(25)))), fuel: 10, store }
 }
 
+/// A record of that row; for `s` of its text, with just the room that the row needs, for `n` of the parts of its text, each once, and for `w` with just the room that
+/// the text needs.
+fn asks(question: u8, entries: usize) -> Vec<u8> {
+    let mut row = setting(entries);
+    match question {
+        b's' => {
+            row.fuel = row.bytes.len() as u32;
+            row.bytes = b"(l0 := (!l0 + 25))".to_vec();
+        }
+        b'n' => {
+            row.fuel = 1;
+            row.bytes = b"(l0 := \0(!l0 + 25)\0)".to_vec();
+        }
+        b'w' => row.fuel = 18,
+        _ => {}
+    }
+    record(question, &row)
+}
+
 /// A record for each question, of a row whose entries just have room, and of one with an entry more.
 pub fn entries_at_limit() -> Vec<u8> {
-    QUESTIONS
-        .bytes()
-        .flat_map(|q| [record(q, &setting(MOST_ENTRIES)), record(q, &setting(MOST_ENTRIES + 1)), record(q, &setting(1))])
-        .flatten()
-        .collect()
+    ALL_QUESTIONS.bytes().flat_map(|q| [asks(q, MOST_ENTRIES), asks(q, MOST_ENTRIES + 1), asks(q, 1)]).flatten().collect()
 }
 
 /// As many entries and bytes as a record can say.
@@ -39,7 +54,7 @@ pub fn unknown_questions() -> Vec<u8> {
 
 /// A small record for each question.
 pub fn small() -> Vec<u8> {
-    QUESTIONS.bytes().flat_map(|q| record(q, &setting(1))).collect()
+    ALL_QUESTIONS.bytes().flat_map(|q| asks(q, 1)).collect()
 }
 
 pub fn faults() -> Vec<u8> {

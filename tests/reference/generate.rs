@@ -1,12 +1,16 @@
 //! `generate`: rows files from a seed, and the stores and fuels of the rows.
 
 use crate::damaged::damaged_row;
+use crate::edges::edges_row;
 use crate::good::good_row;
 use crate::illtyped::illtyped_row;
 use crate::limits::limits_row;
+use crate::long::nested_row;
 use crate::random::Random;
 use crate::rows::{records, Row};
 use crate::run::run;
+use crate::spoilt::spoilt_row;
+use crate::texts::{text_row, written_row};
 use std::io::{self, Write};
 
 /// So many rows, each asked each of the questions.
@@ -24,12 +28,17 @@ pub fn a_row(kind: &str, random: &mut Random) -> Row {
         "illtyped" => illtyped_row(random),
         "damaged" => damaged_row(random),
         "limits" => limits_row(random),
+        "texts" => text_row(random),
+        "spoilt" => spoilt_row(random),
+        "edges" => edges_row(random),
+        "nested" => nested_row(random),
+        "written" => written_row(random),
         "mixed" => {
             let one = random.pick(&["good", "good", "good", "illtyped", "damaged", "limits"]);
             a_row(one, random)
         }
         _ => {
-            eprintln!("kinds: good, illtyped, damaged, limits, mixed");
+            eprintln!("kinds: good, illtyped, damaged, limits, mixed; texts, spoilt, edges for s; nested for n; written for w");
             std::process::exit(2)
         }
     }

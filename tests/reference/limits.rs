@@ -89,12 +89,17 @@ fn few_nodes(random: &mut Random) -> Row {
 /// n of 4,095 to 4,098 and a few far over.
 fn many_nodes(random: &mut Random) -> Row {
     let n = random.pick(&[4095, 4096, 4096, 4097, 4097, 4098, 5000, 8000]);
-    let tree = if n % 2 == 1 { balanced(random, n) } else { assign(0, balanced(random, n - 1)) };
+    let tree = nodes_exactly(random, n);
     let mut row = row_of(random, 1, &tree);
     if random.percent(50) {
         row.fuel = random.pick(&[2045, 2046, 2047, 2048, 4294967295]);
     }
     row
+}
+
+/// A sum of n nodes, or an assignment of one.
+pub fn nodes_exactly(random: &mut Random, n: usize) -> Tree {
+    if n % 2 == 1 { balanced(random, n) } else { assign(0, balanced(random, n - 1)) }
 }
 
 /// An evenly split sum of n nodes (n odd), from small numbers.
@@ -125,7 +130,7 @@ fn assignments(random: &mut Random) -> Tree {
 }
 
 /// A tree of this depth: each turn puts one form around it.
-fn nested(random: &mut Random, depth: usize, ways: usize) -> Tree {
+pub fn nested(random: &mut Random, depth: usize, ways: usize) -> Tree {
     let t = if ways % 2 == 0 { Type::Int } else { Type::Unit };
     let mut tree = if t == Type::Int { deref(0) } else { skip() };
     for _ in 1..depth {

@@ -5,29 +5,42 @@ mod build;
 mod bytes;
 mod cases;
 mod damaged;
+mod edges;
 mod expr;
 mod faults;
+mod form;
 mod generate;
 mod good;
 mod illtyped;
 mod inputs;
 mod limits;
+mod long;
+mod programs;
 mod random;
+mod reading;
 mod refusal;
 mod routine;
 mod rows;
 mod run;
+mod spoilt;
 mod step;
+mod textcases;
+mod texts;
 mod trace;
 mod typing;
 
 #[cfg(test)]
+mod definition;
+#[cfg(test)]
 mod parse;
 #[cfg(test)]
 mod tests;
+#[cfg(test)]
+mod texttests;
 
-use rows::{read_rows, QUESTIONS};
+use rows::{read_rows, ALL_QUESTIONS, QUESTIONS};
 use std::io::{self, BufWriter, Read, Write};
+use textcases::{text_cases, TextCase};
 
 fn main() {
     let arguments: Vec<String> = std::env::args().skip(1).collect();
@@ -42,15 +55,19 @@ fn main() {
 fn obey(words: &[&str], out: &mut impl Write) -> io::Result<()> {
     match words {
         ["answers"] => answers::answers(&input(u64::MAX)?, out),
-        ["show"] => show(out),
+        ["store", rest @ ..] => program(programs::store(rest, &input(u64::MAX)?), out),
+        ["show", rest @ ..] => program(programs::show(rest, &input(u64::MAX)?), out),
+        ["runs"] => programs::runs().iter().try_for_each(|run| writeln!(out, "{}", run.words)),
+        ["runinput", i] => out.write_all(&programs::runs()[number(i) as usize].input),
         ["trace"] => trace::trace(&input(trace::MOST_INPUT as u64)?, out),
         ["traceinput", i] => {
             let rows = read_rows(&input(u64::MAX)?);
             out.write_all(&rows::trace_input(&rows[number(i) as usize].1))
         }
         ["short", bytes, printed] => short_rows(number(bytes) as usize, number(printed) as usize, out),
-        ["cases"] => write_cases(QUESTIONS, out),
+        ["cases"] => write_cases(ALL_QUESTIONS, out),
         ["cases", questions] => write_cases(questions, out),
+        ["lines", questions] => write_lines(questions, out),
         ["names"] => cases::cases().iter().try_for_each(|case| writeln!(out, "{}", case.name)),
         ["faults"] => out.write_all(&faults::faults()),
         ["small"] => out.write_all(&faults::small()),
@@ -61,7 +78,7 @@ fn obey(words: &[&str], out: &mut impl Write) -> io::Result<()> {
 }
 
 fn usage() -> ! {
-    eprintln!("answers | show | trace | traceinput I | short BYTES PRINTED | cases [QUESTIONS] | names | faults | small | generate KIND SEED COUNT [QUESTIONS]");
+    eprintln!("answers | trace | store WORDS | show WORDS | runs | runinput I | traceinput I | short BYTES PRINTED | cases [QUESTIONS] | lines QUESTIONS | names | faults | small | generate KIND SEED COUNT [QUESTIONS]");
     std::process::exit(2)
 }
 
@@ -75,25 +92,38 @@ fn input(most: u64) -> io::Result<Vec<u8>> {
     Ok(bytes)
 }
 
-/// The text of each row that passes 1 to 9.
-fn show(out: &mut impl Write) -> io::Result<()> {
-    for (_, row) in read_rows(&input(u64::MAX)?) {
-        let text = routine::read(&row.bytes).map_or("-".to_string(), |routine| expr::text(&routine.tree));
-        writeln!(out, "{text}")?;
+/// What a program writes, on standard output or on standard error.
+fn program(written: Result<Vec<u8>, programs::Said>, out: &mut impl Write) -> io::Result<()> {
+    match written {
+        Ok(bytes) => out.write_all(&bytes),
+        Err(said) => writeln!(io::stderr(), "{said}"),
     }
-    Ok(())
 }
 
+/// The named rows, each asked those of the questions that are about a row and its store; behind them the named texts and rows of `s`, `n` and `w`, if they are asked.
 fn write_cases(questions: &str, out: &mut impl Write) -> io::Result<()> {
-    cases::cases().iter().try_for_each(|case| out.write_all(&rows::records(questions, &case.row)))
+    let of_rows: String = questions.chars().filter(|&q| QUESTIONS.contains(q)).collect();
+    cases::cases().iter().try_for_each(|case| out.write_all(&rows::records(&of_rows, &case.row)))?;
+    asked_cases(questions).try_for_each(|case| out.write_all(&rows::record(case.question, &case.row)))
 }
 
-/// The records of at most so many bytes for whose rows `trace` prints at most so many.
+/// The lines of the named texts and rows, as they were worked out by hand.
+fn write_lines(questions: &str, out: &mut impl Write) -> io::Result<()> {
+    asked_cases(questions).try_for_each(|case| writeln!(out, "{}", case.line))
+}
+
+fn asked_cases(questions: &str) -> impl Iterator<Item = TextCase> + '_ {
+    text_cases().into_iter().filter(|case| questions.contains(case.question as char))
+}
+
+/// The records of at most so many bytes for whose rows `trace` prints at most so many; those of `s`, `n` and `w` by their bytes alone.
 fn short_rows(bytes: usize, printed: usize, out: &mut impl Write) -> io::Result<()> {
     for (question, row) in read_rows(&input(u64::MAX)?) {
         let record = rows::record(question, &row);
         let mut lines = Vec::new();
-        trace::trace(&rows::whole_input(&row), &mut lines)?;
+        if QUESTIONS.contains(question as char) {
+            trace::trace(&rows::whole_input(&row), &mut lines)?;
+        }
         if record.len() <= bytes && lines.len() <= printed {
             out.write_all(&record)?;
         }

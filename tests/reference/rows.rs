@@ -9,8 +9,11 @@ pub struct Row {
     pub store: Vec<i32>,
 }
 
-/// The questions, in the order in which a row is asked all of them.
+/// The questions about a row and its store, in the order in which a row is asked all of them.
 pub const QUESTIONS: &str = "crxt";
+
+/// All questions: these, and the three about texts.
+pub const ALL_QUESTIONS: &str = "crxtsnw";
 
 /// The entries that a record may have.
 pub const MOST_ENTRIES: usize = 1000;

@@ -103,7 +103,7 @@ pub fn text_after(bytes: &[u8], store: &[i32], k: u32, room: usize) -> Result<(S
     let after = run(bytes, &mut store.to_vec(), k)?;
     let written = text(&after.last);
     if written.len() > room {
-        return Err(Refusal::Needs(written.len()));
+        return Err(Refusal::Needs(32, written.len()));
     }
     Ok((written, after.steps))
 }

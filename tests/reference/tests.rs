@@ -91,7 +91,7 @@ fn text_of_the_endless_loop() {
     let bytes = bytes_of(1, "(while true do skip done)");
     let expected = "(skip ; (while true do skip done))";
     assert_eq!(text_after(&bytes, &[0], 5, 34).unwrap(), (expected.to_string(), 5));
-    assert_eq!(text_after(&bytes, &[0], 5, 33).unwrap_err(), Needs(34));
+    assert_eq!(text_after(&bytes, &[0], 5, 33).unwrap_err(), Needs(32, 34));
     assert_eq!(text_after(&bytes, &[], 5, 33).unwrap_err(), Plain(30));
 }
 
@@ -278,14 +278,20 @@ fn answered(file: &[u8]) -> String {
     String::from_utf8(out).unwrap()
 }
 
-/// The lines of 01's worked example for the four questions.
-const SMALL: [&str; 4] = [
+/// The lines of 01's worked example for the seven questions.
+const SMALL: [&str; 7] = [
     "unit 3 1 1\n",
     "value skip steps 3 loops 0 | 1900\n",
     "4 3 skip\nrefused 32 needs 4\n4 3 skip\n",
     "0 start (l0 := (!l0 + 25)) | 1875\n1 deref (l0 := (1875 + 25)) | 1875\n2 plus (l0 := 1900) | 1875\n\
      3 assign skip | 1900\nvalue skip steps 3 loops 0\n",
+    "38 0024010100040600000000000000000000000000001902000000000100000500000200000000\n",
+    "38 0024010100040600000000000000000000000000001902000000000100000500000200000000\n",
+    "18 (l0 := (!l0 + 25))\n",
 ];
+
+/// Where the records of `small` end: all are of one length, but that of `s`, which has a text of 18 bytes for a row of 38, and that of `n`, which has 20.
+const SMALL_ENDS: [usize; 8] = [0, 51, 102, 153, 204, 235, 268, 319];
 
 #[test]
 fn each_question_has_its_lines() {
@@ -296,22 +302,24 @@ fn each_question_has_its_lines() {
 #[test]
 fn a_cut_record_is_said() {
     let file = faults::small();
-    let one = file.len() / 4;
+    assert_eq!(file.len(), SMALL_ENDS[7]);
     for end in 0..file.len() {
-        let cut = if end % one == 0 { "" } else { "cut record\n" };
-        assert_eq!(answered(&file[..end]), SMALL[..end / one].concat() + cut);
+        let cut = if SMALL_ENDS.contains(&end) { "" } else { "cut record\n" };
+        let whole = SMALL_ENDS[1..].iter().filter(|&&ends| ends <= end).count();
+        assert_eq!(answered(&file[..end]), SMALL[..whole].concat() + cut);
     }
 }
 
 #[test]
 fn records_that_are_not_answered() {
     let zeros = " 0".repeat(999);
-    let room = [SMALL[0].to_string(), format!("value skip steps 3 loops 0 | 1900{zeros}\n"), SMALL[2].to_string(), "refused 40\n".to_string()];
-    let lines: String = (0..4).map(|q| format!("{}too many entries 1001\n{}", room[q], SMALL[q])).collect();
+    let run = format!("value skip steps 3 loops 0 | 1900{zeros}\n");
+    let room = [SMALL[0], &run, SMALL[2], "refused 40\n", "refused 4\n", "refused 4\n", SMALL[6]];
+    let lines: String = (0..7).map(|q| format!("{}too many entries 1001\n{}", room[q], SMALL[q])).collect();
     assert_eq!(answered(&faults::entries_at_limit()), lines);
     let unknown = "unknown question 0\nunknown question 67\nunknown question 10\ntoo many entries 1001\nrefused 1\n";
     assert_eq!(answered(&faults::unknown_questions()), unknown);
-    let whole = format!("{lines}too many entries 65535\n{unknown}{}cut record\n", SMALL[..3].concat());
+    let whole = format!("{lines}too many entries 65535\n{unknown}{}cut record\n", SMALL[..6].concat());
     assert_eq!(answered(&faults::faults()), whole);
 }
 
