@@ -12,6 +12,7 @@ use lib.Dec.{eqb, ltb}
 use lib.ListN.{length, getD, drop, length-append, List·getD-eq-default}
 use lib.Seq.{drop-cons}
 use Rattle.text_form.specs.Automaton.{Sym, lit, word, begin, next, sticks, rest, total}
+use Rattle.text_form.proofs.Notation.{and-both}
 use Rattle.form.specs.Levels.{turned, levels}
 use Rattle.form.specs.Places.{At, Off, Fits}
 
@@ -73,10 +74,6 @@ module _ {t : List ℕ} {i : ℕ} {st : List Sym} {ls : List ℕ} (a : At t i st
       record { inside = h; fits = omega (arith, a .fits); held = a .held }
 
 -- ---- a word
-
-pub and-both : (a b : Bool) → a && b ≡ true → (a ≡ true) × (b ≡ true)
-and-both true b e = (refl, e)
-and-both false b e = absurd (let z : _≡_ {A = ℕ} 0 1 = cc in omega arith)
 
 -- bytes, none of them "("
 abbrev plainByte : ℕ → Bool

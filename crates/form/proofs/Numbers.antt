@@ -14,7 +14,8 @@ use Rattle.text_form.specs.Digits.{digit, nonzero}
 use Rattle.form.specs.Levels.{turned}
 use Rattle.form.specs.Places.{At, Off, Fits, Spelled, spelt, Digits, Number}
 use Rattle.form.specs.declared.Token.{Token}
-use Rattle.form.proofs.Bytes.{not-past, byte, swap, stuck, and-both}
+use Rattle.text_form.proofs.Notation.{and-both}
+use Rattle.form.proofs.Bytes.{not-past, byte, swap, stuck}
 
 -- ---- words
 
