@@ -12,13 +12,13 @@ pub mod SetWords  -- the words of the read set and the write set
 pub mod Decimal  -- the digits of a number: no leading zeros, `-` exactly before a negative one
 pub mod Runs  -- steps in a row
 pub mod Bound  -- T ≤ W + K × (W + 2)
-pub mod Places  -- how many forms enclose the place of the next step
+pub mod Places  -- the forms around the place of the next step are never more than the row's places
 pub mod Outcomes  -- exactly one answer of a run with fuel, and what it says
 pub mod Next  -- the computed next act is the next act
 pub mod RunOf  -- the computed run is the run
 pub mod NeverStuck  -- demand 3, of every moment
-pub mod Depth  -- no tree is deeper than it has nodes
 pub mod Nodes  -- where the nodes of a tree stand
+pub mod Depth  -- a tree has fewer places than it is deep, and how much deeper it can be
 pub mod OwnNumbers  -- each operator carries the number of its own node
 pub mod NodeSums  -- W and the two sets as sums over the nodes
 pub mod TypeUnique  -- one type at most

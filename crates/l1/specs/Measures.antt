@@ -1,4 +1,4 @@
--- 01's numbers of an expression: its nodes, depth, W, its loops, and the demands' limit on the steps of a run.
+-- The numbers of an expression: its nodes, its places, W, its loops, and the demands' limit on the steps of a run.
 use Prim.Native.Nat.{ℕ, _+_, _*_, max}
 use Rattle.l1.specs.Syntax.{Expr, int, bool, _‹_#_›_, if_then_else_, _:=_, !_, skip, _⨾_, while_do′_done}
 
@@ -14,17 +14,19 @@ size skip = 1
 size (e₁ ⨾ e₂) = 1 + size e₁ + size e₂
 size (while e₁ do′ e₂ done) = 1 + size e₁ + size e₂
 
--- "Depth of a node without children is 1, of any other 1 more than its deepest child."
-abbrev pub depth : Expr → ℕ
-depth (int n) = 1
-depth (bool b) = 1
-depth (e₁ ‹ o # i › e₂) = 1 + max (depth e₁) (depth e₂)
-depth (if e₁ then e₂ else e₃) = 1 + max (depth e₁) (max (depth e₂) (depth e₃))
-depth (l := e) = 1 + depth e
-depth (! l) = 1
-depth skip = 1
-depth (e₁ ⨾ e₂) = 1 + max (depth e₁) (depth e₂)
-depth (while e₁ do′ e₂ done) = 1 + max (depth e₁) (depth e₂)
+-- 02, request 2, the count of refusal 9: "integers, booleans, skip and dereference 0; an operator 1 more than the larger of its sides; an
+-- assignment 1 more than its child; an if the largest of (test + 1) and its branches; a sequence the larger of (first + 1) and the second; a
+-- while 1 more than the larger of its two parts". No run of e has more forms around the place of its next step (proofs/Places.antt).
+abbrev pub places : Expr → ℕ
+places (int n) = 0
+places (bool b) = 0
+places (e₁ ‹ o # i › e₂) = 1 + max (places e₁) (places e₂)
+places (if e₁ then e₂ else e₃) = max (places e₁ + 1) (max (places e₂) (places e₃))
+places (l := e) = 1 + places e
+places (! l) = 0
+places skip = 0
+places (e₁ ⨾ e₂) = max (places e₁ + 1) (places e₂)
+places (while e₁ do′ e₂ done) = 1 + max (places e₁) (places e₂)
 
 -- "W is the number of nodes of kinds 2 to 6, 8 and 9": all but integers, booleans and skip
 abbrev pub working : Expr → ℕ
