@@ -36,7 +36,7 @@ fn has_more(r: Refusal) -> bool
         Refusal::Length => false,
         Refusal::Layout(_) => true,
         Refusal::Forest => false,
-        Refusal::Depth => false,
+        Refusal::Places => false,
         Refusal::Undeclared(_) => true,
         Refusal::First(_) => true,
         Refusal::Second(_) => true,

@@ -6,7 +6,7 @@ use Rattle.stored.specs.Stages as S
 use Rattle.stored.specs.Stages.{no, no-with}
 use Rattle.routine.specs.Says.{refusalOf}
 use Rattle.routine.specs.declared.Refusal.{Refusal}
-use Rattle.routine.specs.declared.Refusal.the-variants.{Short, Count, Version, Locations, Nodes, Length, Layout, Forest, Depth}
+use Rattle.routine.specs.declared.Refusal.the-variants.{Short, Count, Version, Locations, Nodes, Length, Layout, Forest, Places}
 use Rattle.routine.specs.declared.Refusal.the-variants.{Undeclared, First, Second, Branches, Store, Buffer, Input}
 
 -- the refusal of a number, and of a number with its value; of a number that none has, the last
@@ -19,7 +19,7 @@ back (no c) =
     (cond (eqb c 5) Nodes
     (cond (eqb c 6) Length
     (cond (eqb c 8) Forest
-    (cond (eqb c 9) Depth
+    (cond (eqb c 9) Places
     (cond (eqb c 30) Store
     Input))))))))
 back (no-with c i) =
@@ -40,7 +40,7 @@ back-again Nodes = refl
 back-again Length = refl
 back-again (Layout i) = refl
 back-again Forest = refl
-back-again Depth = refl
+back-again Places = refl
 back-again (Undeclared i) = refl
 back-again (First i) = refl
 back-again (Second i) = refl

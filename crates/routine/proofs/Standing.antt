@@ -5,7 +5,7 @@ use native.Mathlib.Omega.{arith}
 use mathlib.Core.Path.{_≡_}
 use mathlib.Core.List.{List}
 use lib.ListN.{length}
-use Rattle.l1.specs.Measures.{size, depth}
+use Rattle.l1.specs.Measures.{size, places}
 use Rattle.l1.specs.Refused.{nodes, Node}
 use Rattle.l1.proofs.Nodes.{nth-some, nodes-length}
 use Rattle.stored.specs.Layout.{nodeStart, TreeAt}
@@ -13,7 +13,7 @@ use Rattle.stored.specs.Reader.{treeAt, StandBelow}
 use Rattle.stored.specs.Refusals.{count, Holds}
 use Rattle.stored.specs.Answers.{Opens}
 use Rattle.stored.specs.Headed.{Headed}
-use Rattle.stored.proofs.Opens.{headed, all-nodes, not-deep}
+use Rattle.stored.proofs.Opens.{headed, all-nodes, few-places}
 use Rattle.stored.proofs.Subtrees.{subtrees}
 use Rattle.stored.proofs.Reader.{read-tree}
 use Rattle.routine.specs.declared.Sizes.{Sizes}
@@ -27,8 +27,8 @@ module _ {b : List ℕ} (o : Opens b) (h : Holds b (rootOf b)) where
   pub root-size : size (rootOf b) ≡ count b
   root-size = all-nodes o h
 
-  pub root-depth : depth (rootOf b) ≤ 256
-  root-depth = not-deep o h
+  pub root-places : places (rootOf b) ≤ 256
+  root-places = few-places o h
 
   -- a tree of the root's nodes stands at node i, and is what `treeAt` reads there
   both : (i : ℕ) → i < count b → TreeAt b i (treeAt b i) × Node (rootOf b) i (treeAt b i)

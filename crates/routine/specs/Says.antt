@@ -3,7 +3,7 @@ use Prim.Native.Nat.{ℕ}
 use Rattle.stored.specs.Stages as S
 use Rattle.stored.specs.Stages.{no, no-with}
 use Rattle.routine.specs.declared.Refusal.{Refusal}
-use Rattle.routine.specs.declared.Refusal.the-variants.{Short, Count, Version, Locations, Nodes, Length, Layout, Forest, Depth}
+use Rattle.routine.specs.declared.Refusal.the-variants.{Short, Count, Version, Locations, Nodes, Length, Layout, Forest, Places}
 use Rattle.routine.specs.declared.Refusal.the-variants.{Undeclared, First, Second, Branches, Store, Buffer, Input}
 
 abbrev pub refusalOf : Refusal → S.Refusal
@@ -15,7 +15,7 @@ refusalOf Nodes = no 5
 refusalOf Length = no 6
 refusalOf (Layout i) = no-with 7 i
 refusalOf Forest = no 8
-refusalOf Depth = no 9
+refusalOf Places = no 9
 refusalOf (Undeclared i) = no-with 20 i
 refusalOf (First i) = no-with 21 i
 refusalOf (Second i) = no-with 22 i

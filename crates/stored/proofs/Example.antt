@@ -63,7 +63,7 @@ storable : Storable 1 example
 storable = record {
   few-locations = omega arith;
   few-nodes = omega arith;
-  shallow = omega arith;
+  few-places = omega arith;
   integers = integers;
   read-locations = read-locations;
   written-locations = written-locations;

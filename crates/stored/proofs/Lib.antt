@@ -6,6 +6,7 @@ pub mod Subtrees  -- where a tree stands, its nodes stand
 pub mod Reader  -- one tree at a node at most
 pub mod Stages  -- the laws of orders of refusals
 pub mod Opens  -- what is known where no refusal of 1 to 9 is given
+pub mod StillAccepted  -- no row that 01's depth let pass is refused
 pub mod Admission  -- the admission of a row, whatever is lent with it
 pub mod ReadBack  -- reading the stored form gives back the tree
 pub mod WrittenBack  -- accepted bytes are the stored form of their tree

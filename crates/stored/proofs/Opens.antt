@@ -1,4 +1,4 @@
--- What is known of bytes to which no refusal of 1 to 9 is given: their head, and the nodes and the depth of their tree.
+-- What is known of bytes to which no refusal of 1 to 9 is given: their head, and the nodes and the places of their tree.
 use Prim.Native.Nat.{ℕ, _+_, _*_, _≤_, _<_}
 use native.Mathlib.Omega.{arith}
 use native.Mathlib.Decide.{ℕ-discrete}
@@ -7,7 +7,7 @@ use mathlib.Core.Logic.{inl, inr, Dec·not-not}
 use mathlib.Core.List.{List}
 use lib.ListN.{length}
 use Rattle.l1.specs.Syntax.{Expr}
-use Rattle.l1.specs.Measures.{size, depth}
+use Rattle.l1.specs.Measures.{size, places}
 use Rattle.stored.specs.Bytes.{byte, pair}
 use Rattle.stored.specs.Refusals.{locations, count, Holds}
 use Rattle.stored.specs.Answers.{Opens}
@@ -43,8 +43,8 @@ module _ {b : List ℕ} (ok : Opens b) {e : Expr} (h : Holds b e) where
       let whole : ¬ (size e < count b) = λ l. silent-when s8 (e, h, l) in
       omega (arith, size-fits b (h .tree), h .is-last)
 
-  pub not-deep : depth e ≤ 256
-  not-deep =
+  pub few-places : places e ≤ 256
+  few-places =
       let (s1, (s2, (s3, (s4, (s5, (s6, (s7, (s8, (s9, more))))))))) = ok .passes .all-silent in
-      let low : ¬ (256 < depth e) = λ l. silent-when s9 (e, h, l) in
+      let low : ¬ (256 < places e) = λ l. silent-when s9 (e, h, l) in
       omega arith

@@ -8,7 +8,7 @@ use mathlib.Core.List.{List, [], _∷_, _++_}
 use lib.ListN.{length, length-append}
 use lib.Seq.{take-all}
 use Rattle.l1.specs.Syntax.{Expr, int, bool, _‹_#_›_, if_then_else_, _:=_, !_, skip, _⨾_, while_do′_done}
-use Rattle.l1.specs.Measures.{size, depth}
+use Rattle.l1.specs.Measures.{size, places}
 use Rattle.l1.specs.Refused.{nodes, nth-zero, Node}
 use Rattle.l1.proofs.Nodes.{nth-right, nth-some, nodes-length, size-positive}
 use Rattle.stored.specs.Bytes.{byte, pair, unsigned, signed}
@@ -175,6 +175,6 @@ module _ (m : ℕ) (e : Expr) where
               (passes-more (when-silent (λ h. h (omega (arith, stored-count, stored-pair))))
               (passes-more (at-silent none-breaks)
               (passes-more (when-silent (λ (d, h, l). omega (arith, stored-count, ap size (same d h))))
-              (passes-more (when-silent (λ (d, h, l). omega (arith, s .shallow, ap depth (same d h))))
+              (passes-more (when-silent (λ (d, h, l). omega (arith, s .few-places, ap places (same d h))))
               passes-nothing))))))));
         }

@@ -14,7 +14,7 @@ use Rattle.stored.specs.Stored.{nodeBytes, rootFrom, bytesFrom, stored, 
 use Rattle.stored.specs.Layout.{nodeStart, NodeIs, TreeAt, at-int, at-bool, at-op, at-if, at-assign, at-deref, at-skip, at-seq, at-while}
 use Rattle.stored.specs.Refusals.{locations, Holds}
 use Rattle.stored.specs.Answers.{Opens}
-use Rattle.stored.proofs.Opens.{headed, all-nodes, not-deep}
+use Rattle.stored.proofs.Opens.{headed, all-nodes, few-places}
 use Rattle.stored.proofs.Parts.{part, part-join, bytes, take-bytes, halves, node-part}
 use Rattle.stored.proofs.Signed.{signed-in-range, unsigned-signed}
 use Rattle.stored.proofs.Subtrees.{subtrees}
@@ -110,7 +110,7 @@ module _ (b : List ℕ) (small : (k : ℕ) → byte b k < 256) where
         record {
           few-locations = hd .few-locations;
           few-nodes = omega arith;
-          shallow = not-deep ok h;
+          few-places = few-places ok h;
           integers = λ i n k. int-fits (s .stands i _ k);
           read-locations = λ i l k. deref-fits (s .stands i _ k);
           written-locations = λ i l d k. assign-fits (s .stands i _ k);

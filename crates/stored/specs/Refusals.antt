@@ -8,7 +8,7 @@ use Rattle.l1.specs.Syntax.{Expr}
 use Rattle.l1.specs.Store.{Store}
 use Rattle.l1.specs.Typing.{TypeEnv}
 use Rattle.l1.specs.Run.{Outcome, answer, Yields}
-use Rattle.l1.specs.Measures.{size, depth}
+use Rattle.l1.specs.Measures.{size, places}
 use Rattle.l1.specs.Text.{text}
 use Rattle.l1.specs.Refused.{Refused}
 use Rattle.stored.specs.Bytes.{byte, pair}
@@ -31,7 +31,7 @@ pub record Holds (b : List ℕ) (e : Expr) : Type 0 where
   pub is-last : root + 1 ≡ count b
   pub tree : TreeAt b root e
 
--- "the root's subtree", "the root's depth": P of the tree that stands there
+-- "the root's subtree", "the root's count": P of the tree that stands there
 abbrev pub RootHas : List ℕ → (Expr → Type 0) → Type 0
 RootHas b P = (e : Expr) × Holds b e × P e
 
@@ -41,9 +41,9 @@ pub record Breaks (b : List ℕ) (i : ℕ) : Type 0 where
   pub lower-stand : (j : ℕ) → j < i → (e : Expr) × TreeAt b j e
   pub none-stands : (e : Expr) → ¬ TreeAt b i e
 
--- the routine itself, by its bytes
-abbrev pub opening : List ℕ → List Stage
-opening b =
+-- the routine itself, by its bytes: its layout, and then its places
+abbrev pub layout : List ℕ → List Stage
+layout b =
     (1 when length b < 6)
     ∷ (2 when ¬ (pair b 0 + 2 ≡ length b))
     ∷ (3 when ¬ (byte b 2 ≡ 1))
@@ -52,8 +52,11 @@ opening b =
     ∷ (6 when ¬ (pair b 0 ≡ 4 + 8 * count b))
     ∷ (7 at Breaks b)
     ∷ (8 when RootHas b (λ e. size e < count b))
-    ∷ (9 when RootHas b (λ e. 256 < depth e))
     ∷ []
+
+-- 9 as request 2 of 02 has it
+abbrev pub opening : List ℕ → List Stage
+opening b = layout b ++ (9 when RootHas b (λ e. 256 < places e)) ∷ []
 
 -- and by its types: 20 to 23 are one stage, in which l1's `Refused` picks the node and the number
 abbrev pub typing : List ℕ → List Stage

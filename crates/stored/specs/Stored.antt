@@ -5,7 +5,7 @@ use mathlib.Core.List.{List, _∷_, _++_}
 use lib.IntN.{ℤ}
 use Rattle.l1.specs.Syntax.{Op, plus, geq, Loc, Expr, int, bool, _‹_#_›_, if_then_else_, _:=_, !_, skip, _⨾_, while_do′_done}
 use Rattle.l1.specs.Range.{InRange}
-use Rattle.l1.specs.Measures.{size, depth}
+use Rattle.l1.specs.Measures.{size, places}
 use Rattle.l1.specs.Refused.{Node, Numbered}
 use Rattle.stored.specs.Bytes.{twoBytes, unsigned}
 
@@ -50,12 +50,12 @@ bytesFrom f (while e₁ do′ e₂ done) =
 unfoldable pub stored : ℕ → Expr → List ℕ
 stored m e = twoBytes (4 + 8 * size e) ++ 1 ∷ m ∷ twoBytes (size e) ++ bytesFrom 0 e
 
--- the trees that a routine can hold: within the limits of 01, integers of 32 bits, locations of one byte, and each operator numbered by its
--- own node
+-- the trees that a routine can hold: within the limits of 01 and of request 2 of 02, integers of 32 bits, locations of one byte, and each
+-- operator numbered by its own node
 pub record Storable (m : ℕ) (e : Expr) : Type 0 where
   pub few-locations : m ≤ 64
   pub few-nodes : size e ≤ 4096
-  pub shallow : depth e ≤ 256
+  pub few-places : places e ≤ 256
   pub integers : (i : ℕ) (n : ℤ) → Node e i (int n) → InRange n
   pub read-locations : (i : ℕ) (l : Loc) → Node e i (! l) → l ≤ 255
   pub written-locations : (i : ℕ) (l : Loc) (d : Expr) → Node e i (l := d) → l ≤ 255
