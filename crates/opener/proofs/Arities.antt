@@ -5,31 +5,36 @@ use native.Mathlib.Omega.{arith}
 use mathlib.Core.Path.{_≡_, refl}
 use mathlib.Core.Bool.{Bool, true, false, not, _&&_, _||_}
 use lib.Dec.{eqb, leb}
+use borrow.Author.Tests.{leb-true, leb-false, eq-eqb, ne-eqb}
 use Rattle.routine.specs.declared.Form.{Form}
 use Rattle.routine.specs.declared.Form.the-variants.{Integer, Boolean, Plus, Geq, If, Assign, Deref, Skip, Seq, While, Unknown}
 use Rattle.routine.specs.Forms.{digitOf}
-use Rattle.opener.specs.Shapes.{shapeOf, childrenOf, argTop, standsBy, placed}
+use Rattle.opener.specs.Shapes.{shapeOf, childrenOf, isInside, argTop, standsBy, placed}
 
--- one more than the largest byte 1
-abbrev pub pastTop : Form → ℕ
-pastTop f = 1 * 2 ^ digitOf 0x00008800010 f % 2 ^ 64
+-- what has no bit beyond a form's is not over the largest byte 1
+told : (a k t : ℕ) → (a / k ≡ 0 → a ≤ t) → (a ≤ t → a / k ≡ 0) → eqb (a / k) 0 ≡ leb a t
+told a k t to from = go (leb a t) refl
+  where
+    go : (u : Bool) → leb a t ≡ u → eqb (a / k) 0 ≡ u
+    go true e = eq-eqb (a / k) 0 (from (leb-true a t e))
+    go false e = ne-eqb (a / k) 0 (λ q. omega (arith, to q, leb-false a t e))
 
-pub top-fits : (f : Form) → (1 ≤ pastTop f) × (pastTop f - 1 < 256) × (pastTop f - 1 ≡ argTop f)
+pub taken : (f : Form) (a : ℕ) → a < 256 → eqb (a / 2 ^ digitOf 0x00008800010 f) 0 ≡ leb a (argTop f)
 unfolding digitOf
-top-fits Integer = (omega arith, omega arith, refl)
-top-fits Boolean = (omega arith, omega arith, refl)
-top-fits Plus = (omega arith, omega arith, refl)
-top-fits Geq = (omega arith, omega arith, refl)
-top-fits If = (omega arith, omega arith, refl)
-top-fits Assign = (omega arith, omega arith, refl)
-top-fits Deref = (omega arith, omega arith, refl)
-top-fits Skip = (omega arith, omega arith, refl)
-top-fits Seq = (omega arith, omega arith, refl)
-top-fits While = (omega arith, omega arith, refl)
-top-fits Unknown = (omega arith, omega arith, refl)
+taken Integer a l = told a 1 0 (λ q. omega arith) (λ q. omega arith)
+taken Boolean a l = told a 2 1 (λ q. omega arith) (λ q. omega arith)
+taken Plus a l = told a 1 0 (λ q. omega arith) (λ q. omega arith)
+taken Geq a l = told a 1 0 (λ q. omega arith) (λ q. omega arith)
+taken If a l = told a 1 0 (λ q. omega arith) (λ q. omega arith)
+taken Assign a l = told a 256 255 (λ q. omega arith) (λ q. omega arith)
+taken Deref a l = told a 256 255 (λ q. omega arith) (λ q. omega arith)
+taken Skip a l = told a 1 0 (λ q. omega arith) (λ q. omega arith)
+taken Seq a l = told a 1 0 (λ q. omega arith) (λ q. omega arith)
+taken While a l = told a 1 0 (λ q. omega arith) (λ q. omega arith)
+taken Unknown a l = told a 1 0 (λ q. omega arith) (λ q. omega arith)
 
 -- the children that the table says a form has
-pub children : (f : Form) → digitOf 0x82200132204 f % 4 ≡ childrenOf (shapeOf f)
+pub children : (f : Form) → digitOf 0x8e20013ee04 f % 4 ≡ childrenOf (shapeOf f)
 unfolding digitOf
 children Integer = refl
 children Boolean = refl
@@ -43,12 +48,27 @@ children Seq = refl
 children While = refl
 children Unknown = refl
 
+-- and whether its second part is inside
+pub inside : (f : Form) → leb 12 (digitOf 0x8e20013ee04 f) ≡ isInside f
+unfolding digitOf
+inside Integer = refl
+inside Boolean = refl
+inside Plus = refl
+inside Geq = refl
+inside If = refl
+inside Assign = refl
+inside Deref = refl
+inside Skip = refl
+inside Seq = refl
+inside While = refl
+inside Unknown = refl
+
 -- the tests of `is_placed`, joined as it joins them, for a form that has a children
 abbrev pub allStand : Form → ℕ → ℕ → ℕ → ℕ → ℕ → ℕ → ℕ → Bool
 allStand f a i x y z q r =
     standsBy ((a + 3) / 4) (leb 2 a) x i q
-    && (standsBy (a / 2) (leb 3 a) y i r && standsBy ((a + 1) / 4) false z i 0 || eqb (digitOf 0x82200132204 f) 4)
-    && not (eqb (digitOf 0x82200132204 f) 8)
+    && (standsBy (a / 2) (leb 3 a) y i r && standsBy ((a + 1) / 4) false z i 0 || eqb (digitOf 0x8e20013ee04 f) 4)
+    && not (eqb (digitOf 0x8e20013ee04 f) 8)
 
 a-number : (a b c : Bool) → a && (b && c || true) && true ≡ a
 a-number true true true = refl

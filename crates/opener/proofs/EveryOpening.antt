@@ -10,7 +10,7 @@ use mathlib.Core.List.{List}
 use lib.ListN.{length}
 use borrow.Author.Count.{below-more}
 use Rattle.l1.specs.Syntax.{Expr}
-use Rattle.l1.specs.Measures.{size, depth}
+use Rattle.l1.specs.Measures.{size, places}
 use Rattle.l1.proofs.Clash.{clash}
 use Rattle.stored.specs.Bytes.{byte, pair}
 use Rattle.stored.specs.Layout.{arg, TreeAt}
@@ -33,12 +33,12 @@ unless d f g = on d g f
 module _ (b : List ℕ) where
   -- the word of the tree at node j
   abbrev word : ℕ → ℕ
-  word j = 65536 * depth (treeAt b j) + (j + 1 - size (treeAt b j))
+  word j = 65536 * (1 + places (treeAt b j)) + (j + 1 - size (treeAt b j))
 
   -- trees standing at the nodes before it, a tree stands at node i or none does
   module _ {i : ℕ} (below : StandBelow b i) (few : i < 65536) where
     words : WordsOf b i word
-    words j l = let h = size-fits b (below j l) in record { low = omega arith; deep = omega arith }
+    words j l = let h = size-fits b (below j l) in record { low = omega arith; holds = omega arith }
 
     stands-or-not : TreeAt b i (treeAt b i) ⊎ ((e : Expr) → ¬ TreeAt b i e)
     stands-or-not = go (keepsBy b i word (min (arg b i) 255)) refl
@@ -71,7 +71,7 @@ module _ (b : List ℕ) where
           let e = treeAt b (count b - 1) in
           let fits = size-fits b (stand (count b - 1) (omega arith)) in
           on (decLt (size e) (count b)) (λ less. (_, first-8 b head (stand, less))) (λ n₈.
-          on (decLt 256 (depth e)) (λ deep. (_, first-9 b head (stand, omega arith, deep))) (λ n₉.
+          on (decLt 256 (places e)) (λ many. (_, first-9 b head (stand, omega arith, many))) (λ n₉.
           (_, opens-whole b head (stand, omega arith, omega arith))))
 
   pub every-opening : Answered

@@ -8,15 +8,15 @@ use lib.ListN.{length, getD, set}
 use lib.Seq.{getD-set-same, getD-set-other}
 use borrow.Author.Count.{below-more}
 use Rattle.l1.specs.Syntax.{Expr}
-use Rattle.l1.specs.Measures.{size, depth}
-use Rattle.l1.proofs.Depth.{depth-within-size}
-use Rattle.stored.specs.Layout.{arg, child2, child3, TreeAt}
+use Rattle.l1.specs.Measures.{size, places}
+use Rattle.l1.proofs.Places.{places-below-size}
+use Rattle.stored.specs.Layout.{kind, arg, child1, child2, child3, TreeAt}
 use Rattle.stored.specs.Reader.{treeAt, StandBelow}
 use Rattle.stored.specs.Refusals.{count}
-use Rattle.routine.specs.Forms.{nodeOf}
+use Rattle.routine.specs.Forms.{formOf, nodeOf}
 use Rattle.routine.specs.Masks.{Covers, under}
 use Rattle.opener.specs.Shapes.{keepsNode, wordAt}
-use Rattle.opener.proofs.NodeTrees.{WordOf, WordsOf, word-by, stands-keeps, keeps-stands}
+use Rattle.opener.proofs.NodeTrees.{WordOf, WordsOf, some-word, word-by, stands-keeps, keeps-stands}
 
 -- a tree stands at node j, and the table holds its word
 pub record Passed (b words : List ℕ) (j : ℕ) : Type 0 where
@@ -40,7 +40,7 @@ module _ (b words : List ℕ) (i mask : ℕ) (past : (j : ℕ) → j < i → Pas
       go true h =
           let t = keeps-stands b (λ j l. past j l .stands) (under mask words) table (arg b i) (omega arith) h in
           let w : WordOf i (treeAt b i) k = rw (rw h at e) (word-by b _ table (omega arith) t) in
-          (t, w, omega (arith, w .low, w .deep, depth-within-size (treeAt b i)))
+          (t, w, omega (arith, w .low, w .holds, places-below-size (treeAt b i)))
       go false h = absurd (some (rw h at e))
 
   pub next-breaks : (k : ℕ) → arg b i < 256 → k ≡ wordAt b i (under mask words) → k ≡ 0 → (e : Expr) → ¬ TreeAt b i e
@@ -48,7 +48,7 @@ module _ (b words : List ℕ) (i mask : ℕ) (past : (j : ℕ) → j < i → Pas
   next-breaks k a h none e t =
       let small : min (arg b i) 255 ≡ arg b i = omega arith in
       let kept : keeps ≡ true = rw small at (stands-keeps b (under mask words) table t) in
-      omega (arith, rw kept at h)
+      omega (arith, rw kept at h, some-word (formOf (kind b i)) i (under mask words (child1 b i)) (under mask words (child2 b i)) (under mask words (child3 b i)))
 
   pub next-passed : (k : ℕ) → i < length words → TreeAt b i (treeAt b i) → WordOf i (treeAt b i) k
       → (j : ℕ) → j < i + 1 → Passed b (set words i k) j
@@ -66,5 +66,5 @@ module _ (b words : List ℕ) (n : ℕ) (past : (j : ℕ) → j < n → Passed b
   forest e = rw (← all) ((λ j l. past j l .stands), omega (arith, root .low))
 
   pub whole : getD words (n - 1) 0 % 65536 ≡ 0
-      → StandBelow b (count b) × (size (treeAt b (count b - 1)) ≡ count b) × (depth (treeAt b (count b - 1)) ≡ getD words (n - 1) 0 / 65536)
-  whole e = rw (← all) ((λ j l. past j l .stands), omega (arith, root .low), sym (root .deep))
+      → StandBelow b (count b) × (size (treeAt b (count b - 1)) ≡ count b) × (getD words (n - 1) 0 / 65536 ≡ 1 + places (treeAt b (count b - 1)))
+  whole e = rw (← all) ((λ j l. past j l .stands), omega (arith, root .low), root .holds)

@@ -9,14 +9,15 @@ use lib.Dec.{eqb, leb}
 use borrow.Author.Tests.{eqb-true, eqb-false, leb-true, eq-eqb, le-leb}
 use Rattle.l1.proofs.Clash.{clash}
 use Rattle.l1.specs.Syntax.{plus, geq, Expr, int, bool, _‹_#_›_, if_then_else_, _:=_, !_, skip, _⨾_, while_do′_done}
-use Rattle.l1.specs.Measures.{size, depth}
-use Rattle.l1.proofs.Depth.{depth-within-size}
+use Rattle.l1.specs.Measures.{size, places}
+use Rattle.l1.proofs.Places.{places-below-size}
 use Rattle.stored.specs.Layout.{kind, arg, child1, child2, child3, NodeIs, TreeAt}
 use Rattle.stored.specs.Layout.{at-int, at-bool, at-op, at-if, at-assign, at-deref, at-skip, at-seq, at-while}
 use Rattle.stored.specs.Reader.{treeAt, StandBelow}
 use Rattle.stored.proofs.Reader.{read-tree}
+use Rattle.routine.specs.declared.Form.{Form}
 use Rattle.routine.specs.Forms.{formOf}
-use Rattle.opener.specs.Shapes.{Shape, Leaf, Number, One, Two, Three, Nothing, shapeOf, argTop, placed, wordBy}
+use Rattle.opener.specs.Shapes.{Shape, Leaf, Number, One, Two, Three, Nothing, shapeOf, childrenOf, isInside, argTop, placed, wordBy}
 
 pub both : (a b : Bool) → a && b ≡ true → (a ≡ true) × (b ≡ true)
 both true b e = (refl, e)
@@ -52,10 +53,10 @@ bit a h = go (eqb a 1) refl
     go true e = eqb-true a 1 e
     go false e = omega (arith, eqb-false a 1 e)
 
--- w is the word of the tree e at node j: with e's nodes the lowest of them makes up those to j, and its depth is e's
+-- w is the word of the tree e at node j: with e's nodes the lowest of them makes up those to j, and it holds e's places
 pub record WordOf (j : ℕ) (e : Expr) (w : ℕ) : Type 0 where
   pub low : w % 65536 + size e ≡ j + 1
-  pub deep : w / 65536 ≡ depth e
+  pub holds : w / 65536 ≡ 1 + places e
 
 -- s is a table of the words of the trees at the nodes before i
 abbrev pub WordsOf : List ℕ → ℕ → (ℕ → ℕ) → Type 0
@@ -67,76 +68,77 @@ keepsBy b i s a =
     placed (shapeOf (formOf (kind b i))) i (child1 b i) (child2 b i) (child3 b i) (s (child2 b i) % 65536) (s (child3 b i) % 65536)
     && leb a (argTop (formOf (kind b i)))
 
-some-depth : (e : Expr) → 1 ≤ depth e
-some-depth (int n) = omega arith
-some-depth (bool t) = omega arith
-some-depth (e₁ ‹ o # i › e₂) = omega arith
-some-depth (if e₁ then e₂ else e₃) = omega arith
-some-depth (l := e) = omega arith
-some-depth (! l) = omega arith
-some-depth skip = omega arith
-some-depth (e₁ ⨾ e₂) = omega arith
-some-depth (while e₁ do′ e₂ done) = omega arith
-
--- the word of a node with children tells the lowest node of the first, and 1 more than the largest depth
+-- the word of a node with children tells the lowest node of the first, and the most places, with one more for a part inside
 joined : (p q r : ℕ)
-    → let w = 65536 + (p % 65536 + 65536 * (max p (max q r) / 65536)) in
-    (w % 65536 ≡ p % 65536) × (w / 65536 ≡ 1 + max (p / 65536) (max (q / 65536) (r / 65536)))
+    → let w = p % 65536 + 65536 * (max q (max (65536 + p) r) / 65536) in
+    (w % 65536 ≡ p % 65536) × (w / 65536 ≡ max (q / 65536) (max (1 + p / 65536) (r / 65536)))
 joined p q r = (omega arith, omega arith)
 
-leaf-word : {i : ℕ} {e : Expr} → i < 65536 → size e ≡ 1 → depth e ≡ 1 → WordOf i e (65536 + i)
-leaf-word few one flat = record { low = omega arith; deep = omega arith }
+pub some-word : (f : Form) (i p q r : ℕ) → 0 < wordBy f i p q r
+some-word f i p q r = go (leb 1 (childrenOf (shapeOf f)))
+  where
+    go : (t : Bool) → 0 < cond t (p % 65536 + 65536 * (max (cond (isInside f) 65536 0 + q) (max (65536 + p) r) / 65536)) (65536 + i)
+    go true = omega arith
+    go false = omega arith
+
+leaf-word : {i : ℕ} {e : Expr} → i < 65536 → size e ≡ 1 → places e ≡ 0 → WordOf i e (65536 + i)
+leaf-word few one none = record { low = omega arith; holds = omega arith }
 
 module _ (b : List ℕ) (s : ℕ → ℕ) {i : ℕ} (h : WordsOf b i s) where
   held : {x : ℕ} {e : Expr} → TreeAt b x e → x < i → WordOf x e (s x)
   held {x} {e} t l = let q : treeAt b x ≡ e = read-tree b (x + 1) t (omega arith) in rw q at (h x l)
 
-  -- where a node has no child, node 0 is read, which is not deeper than any tree
-  flat : 0 < i → (e : Expr) → s 0 / 65536 ≤ depth e
-  flat l e = let w = h 0 l in omega (arith, w .low, w .deep, depth-within-size (treeAt b 0), some-depth e)
+  -- where a node has no child, node 0 is read, which has no places
+  none-there : 0 < i → s 0 / 65536 ≡ 1
+  none-there l = let w = h 0 l in omega (arith, w .low, w .holds, places-below-size (treeAt b 0))
 
-  one-by : {x : ℕ} {e₁ e : Expr} → TreeAt b x e₁ → x + 1 ≡ i → size e ≡ 1 + size e₁ → depth e ≡ 1 + depth e₁
-      → WordOf i e (65536 + (s x % 65536 + 65536 * (max (s x) (max (s 0) (s 0)) / 65536)))
+  one-by : {x : ℕ} {e₁ e : Expr} → TreeAt b x e₁ → x + 1 ≡ i → size e ≡ 1 + size e₁ → places e ≡ 1 + places e₁
+      → WordOf i e (s x % 65536 + 65536 * (max (0 + s 0) (max (65536 + s x) (s 0)) / 65536))
   one-by {x} {e₁} t p n d =
       let w = held t (omega arith) in
-      let j = joined (s x) (s 0) (s 0) in
-      let f = flat (omega arith) e₁ in
-      record { low = omega (arith, w .low); deep = omega (arith, w .deep) }
+      let j = joined (s x) (0 + s 0) (s 0) in
+      let f = none-there (omega arith) in
+      record { low = omega (arith, w .low); holds = omega (arith, w .holds) }
 
-  two-by : {x y : ℕ} {e₁ e₂ e : Expr} → TreeAt b x e₁ → TreeAt b y e₂ → y + 1 ≡ i → x + size e₂ ≡ y
-      → size e ≡ 1 + size e₁ + size e₂ → depth e ≡ 1 + max (depth e₁) (depth e₂)
-      → WordOf i e (65536 + (s x % 65536 + 65536 * (max (s x) (max (s y) (s 0)) / 65536)))
-  two-by {x} {y} {e₁} t₁ t₂ p q n d =
+  -- v is the second part's word, with c more where that is inside the form
+  two-by : (v c : ℕ) {x y : ℕ} {e₁ e₂ e : Expr} → v / 65536 ≡ s y / 65536 + c → TreeAt b x e₁ → TreeAt b y e₂ → y + 1 ≡ i → x + size e₂ ≡ y
+      → size e ≡ 1 + size e₁ + size e₂ → places e ≡ max (places e₁ + 1) (places e₂ + c)
+      → WordOf i e (s x % 65536 + 65536 * (max v (max (65536 + s x) (s 0)) / 65536))
+  two-by v c {x} {y} z t₁ t₂ p q n d =
       let w₁ = held t₁ (omega arith) in
       let w₂ = held t₂ (omega arith) in
-      let j = joined (s x) (s y) (s 0) in
-      let f = flat (omega arith) e₁ in
-      record { low = omega (arith, w₁ .low); deep = omega (arith, w₁ .deep, w₂ .deep) }
+      let j = joined (s x) v (s 0) in
+      let f = none-there (omega arith) in
+      record { low = omega (arith, w₁ .low); holds = omega (arith, w₁ .holds, w₂ .holds) }
 
   three-by : {x y z : ℕ} {e₁ e₂ e₃ e : Expr} → TreeAt b x e₁ → TreeAt b y e₂ → TreeAt b z e₃
       → z + 1 ≡ i → y + size e₃ ≡ z → x + size e₂ ≡ y
-      → size e ≡ 1 + size e₁ + size e₂ + size e₃ → depth e ≡ 1 + max (depth e₁) (max (depth e₂) (depth e₃))
-      → WordOf i e (65536 + (s x % 65536 + 65536 * (max (s x) (max (s y) (s z)) / 65536)))
+      → size e ≡ 1 + size e₁ + size e₂ + size e₃ → places e ≡ max (places e₁ + 1) (max (places e₂) (places e₃))
+      → WordOf i e (s x % 65536 + 65536 * (max (0 + s y) (max (65536 + s x) (s z)) / 65536))
   three-by {x} {y} {z} t₁ t₂ t₃ p q r n d =
       let w₁ = held t₁ (omega arith) in
       let w₂ = held t₂ (omega arith) in
       let w₃ = held t₃ (omega arith) in
-      let j = joined (s x) (s y) (s z) in
-      record { low = omega (arith, w₁ .low); deep = omega (arith, w₁ .deep, w₂ .deep, w₃ .deep) }
+      let j = joined (s x) (0 + s y) (s z) in
+      record { low = omega (arith, w₁ .low); holds = omega (arith, w₁ .holds, w₂ .holds, w₃ .holds) }
 
   -- the word of a tree, from those of its children
   pub word-by : {e : Expr} → i < 65536 → TreeAt b i e
-      → WordOf i e (wordBy (shapeOf (formOf (kind b i))) i (s (child1 b i)) (s (child2 b i)) (s (child3 b i)))
+      → WordOf i e (wordBy (formOf (kind b i)) i (s (child1 b i)) (s (child2 b i)) (s (child3 b i)))
   word-by few (at-int n v) = rw (n .its-kind) (leaf-word few refl refl)
   word-by few (at-bool n) = rw (n .its-kind) (leaf-word few refl refl)
-  word-by few (at-op {o = plus} n p q t₁ t₂) = rw (n .its-kind, n .its-first, n .its-second, n .its-third) (two-by t₁ t₂ p q refl refl)
-  word-by few (at-op {o = geq} n p q t₁ t₂) = rw (n .its-kind, n .its-first, n .its-second, n .its-third) (two-by t₁ t₂ p q refl refl)
+  word-by few (at-op {o = plus} {y = y} n p q t₁ t₂) =
+      rw (n .its-kind, n .its-first, n .its-second, n .its-third) (two-by (65536 + s y) 1 (omega arith) t₁ t₂ p q refl (omega arith))
+  word-by few (at-op {o = geq} {y = y} n p q t₁ t₂) =
+      rw (n .its-kind, n .its-first, n .its-second, n .its-third) (two-by (65536 + s y) 1 (omega arith) t₁ t₂ p q refl (omega arith))
   word-by few (at-if n p q r t₁ t₂ t₃) = rw (n .its-kind, n .its-first, n .its-second, n .its-third) (three-by t₁ t₂ t₃ p q r refl refl)
   word-by few (at-assign n p t) = rw (n .its-kind, n .its-first, n .its-second, n .its-third) (one-by t p refl refl)
   word-by few (at-deref n) = rw (n .its-kind) (leaf-word few refl refl)
   word-by few (at-skip n) = rw (n .its-kind) (leaf-word few refl refl)
-  word-by few (at-seq n p q t₁ t₂) = rw (n .its-kind, n .its-first, n .its-second, n .its-third) (two-by t₁ t₂ p q refl refl)
-  word-by few (at-while n p q t₁ t₂) = rw (n .its-kind, n .its-first, n .its-second, n .its-third) (two-by t₁ t₂ p q refl refl)
+  word-by few (at-seq {y = y} n p q t₁ t₂) =
+      rw (n .its-kind, n .its-first, n .its-second, n .its-third) (two-by (0 + s y) 0 (omega arith) t₁ t₂ p q refl (omega arith))
+  word-by few (at-while {y = y} n p q t₁ t₂) =
+      rw (n .its-kind, n .its-first, n .its-second, n .its-third) (two-by (65536 + s y) 1 (omega arith) t₁ t₂ p q refl (omega arith))
 
   -- the child before y stands right before y's subtree
   before : (x : ℕ) {y : ℕ} {e : Expr} → y < i → x + size e ≡ y → TreeAt b y e → x + 1 ≡ s y % 65536

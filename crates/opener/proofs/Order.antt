@@ -6,7 +6,7 @@ use mathlib.Core.Logic.{inl, inr, ⊎-elim}
 use mathlib.Core.List.{List}
 use lib.ListN.{length, drop}
 use Rattle.l1.specs.Syntax.{Expr}
-use Rattle.l1.specs.Measures.{size, depth}
+use Rattle.l1.specs.Measures.{size, places}
 use Rattle.stored.specs.Bytes.{byte, pair}
 use Rattle.stored.specs.Reader.{treeAt, StandBelow}
 use Rattle.stored.specs.Stages.{no, no-with, given, given-at}
@@ -16,7 +16,7 @@ use Rattle.stored.specs.Answers.{refuses, opens, Opening, open-refuses, open-op
 use Rattle.stored.proofs.Reader.{holds-unique}
 use Rattle.stored.proofs.Stages.{when-silent, at-silent, passes-nothing, Past, past-none, past-more, first-now}
 use Rattle.opener.specs.Says.{LaidSays}
-use Rattle.opener.specs.declared.Laid.the-variants.{Breaks, Forest, Deep, Whole}
+use Rattle.opener.specs.declared.Laid.the-variants.{Breaks, Forest, Crowded, Whole}
 
 -- the first k stages are silent
 abbrev Silent-to : List ℕ → ℕ → Type 0
@@ -87,14 +87,14 @@ module _ (b : List ℕ) where
         past-8 : Silent-to b 8
         past-8 = past-more past-7 (when-silent (λ (e, h, l). omega (arith, ap size (holds-unique b h holds-root))))
 
-        past-9 : depth (treeAt b (count b - 1)) ≤ 256 → Silent-to b 9
-        past-9 p₉ = past-more past-8 (when-silent (λ (e, h, l). omega (arith, ap depth (holds-unique b h holds-root))))
+        past-9 : places (treeAt b (count b - 1)) ≤ 256 → Silent-to b 9
+        past-9 p₉ = past-more past-8 (when-silent (λ (e, h, l). omega (arith, ap places (holds-unique b h holds-root))))
 
     pub first-8 : LaidSays b Forest → Opening b (refuses (no 8))
     first-8 (stand, less) = open-refuses (first-now (past-7 stand) (given (_, holds-root stand, less)))
 
-    pub first-9 : LaidSays b Deep → Opening b (refuses (no 9))
-    first-9 (stand, whole, deep) = open-refuses (first-now (past-8 stand whole) (given (_, holds-root stand, deep)))
+    pub first-9 : LaidSays b Crowded → Opening b (refuses (no 9))
+    first-9 (stand, whole, many) = open-refuses (first-now (past-8 stand whole) (given (_, holds-root stand, many)))
 
     pub opens-whole : LaidSays b Whole → Opening b (opens (locations b) (count b))
     opens-whole (stand, whole, low) = open-opens (record { passes = past-9 stand whole low .passes passes-nothing }) (holds-root stand)

@@ -1,6 +1,6 @@
 -- One node by its shape: whether its children stand where they must, and the word that tells of its subtree, from its children's.
 use Prim.Native.Nat.{ℕ, _+_, _*_, _/_, _%_, max}
-use mathlib.Core.Bool.{Bool, false, _&&_, cond}
+use mathlib.Core.Bool.{Bool, true, false, _&&_, cond}
 use mathlib.Core.List.{List}
 use lib.Dec.{eqb, leb}
 use Rattle.stored.specs.Layout.{kind, child1, child2, child3}
@@ -34,6 +34,20 @@ childrenOf Two = 2
 childrenOf Three = 3
 childrenOf Nothing = 0
 
+-- whether the second part is worked inside the form
+abbrev pub isInside : Form → Bool
+isInside Integer = false
+isInside Boolean = false
+isInside Plus = true
+isInside Geq = true
+isInside If = false
+isInside Assign = false
+isInside Deref = false
+isInside Skip = false
+isInside Seq = false
+isInside While = true
+isInside Unknown = false
+
 -- the largest byte 1
 abbrev pub argTop : Form → ℕ
 argTop Integer = 0
@@ -65,13 +79,16 @@ standsBy has more c i low = eqb (c + has) (cond more low (has * i))
 abbrev pub keepsNode : Node → ℕ → ℕ → ℕ → Bool
 keepsNode d i q r = placed (shapeOf (d .form)) i (d .first) (d .second) (d .third) q r && leb (d .arg) (argTop (d .form))
 
--- a word tells the lowest node of a subtree, and 65536 times its depth: that of a node i whose children's words are p, q and r
-abbrev pub wordBy : Shape → ℕ → ℕ → ℕ → ℕ → ℕ
-wordBy h i p q r = 65536 + cond (leb 1 (childrenOf h)) (p % 65536 + 65536 * (max p (max q r) / 65536)) i
+-- a word tells the lowest node of a subtree, and 65536 times one more than its places: that of a node i whose children's words are p, q and r
+abbrev pub wordBy : Form → ℕ → ℕ → ℕ → ℕ → ℕ
+wordBy f i p q r =
+    cond (leb 1 (childrenOf (shapeOf f)))
+    (p % 65536 + 65536 * (max (cond (isInside f) 65536 0 + q) (max (65536 + p) r) / 65536))
+    (65536 + i)
 
 -- the word of node i, 0 where the node breaks the layout; s gives those of the nodes before it
 unfoldable pub wordAt : List ℕ → ℕ → (ℕ → ℕ) → ℕ
 wordAt b i s =
     cond (keepsNode (nodeOf b i) i (s (child2 b i) % 65536) (s (child3 b i) % 65536))
-    (wordBy (shapeOf (formOf (kind b i))) i (s (child1 b i)) (s (child2 b i)) (s (child3 b i)))
+    (wordBy (formOf (kind b i)) i (s (child1 b i)) (s (child2 b i)) (s (child3 b i)))
     0

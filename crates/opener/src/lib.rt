@@ -2,12 +2,13 @@
 ghost use mathlib.Core.Path.{_≡_};
 ghost use Prim.Native.Nat.{_+_, _≤_, _<_, max};
 ghost use mathlib.Core.Bool.{cond};
+ghost use lib.Dec.{leb};
 ghost use lib.ListN.{length};
 ghost use Rattle.stored.specs.Layout.{nodeStart};
 ghost use Rattle.stored.specs.Refusals.{count};
 ghost use Rattle.stored.specs.Answers.{Opening};
 ghost use Rattle.stored.specs.Headed.{Headed};
-ghost use Rattle.opener.specs.Shapes.{shapeOf, childrenOf, argTop, standsBy, placed, keepsNode, wordBy, wordAt};
+ghost use Rattle.opener.specs.Shapes.{shapeOf, childrenOf, isInside, argTop, standsBy, placed, keepsNode, wordBy, wordAt};
 ghost use Rattle.routine.specs.Masks.{Covers, under};
 ghost use Rattle.routine.specs.Open.{SizesOf};
 ghost use Rattle.opener.specs.Says.{HeadSays, LaidSays, openedOf};
@@ -28,11 +29,11 @@ pub enum Head {
     Good(Sizes),
 }
 
-// Whether every node keeps the layout, whether the root's subtree has all of them, and whether it is too deep.
+// Whether every node keeps the layout, whether the root's subtree has all of them, and whether it has too many places.
 pub enum Laid {
     Breaks(u16),
     Forest,
-    Deep,
+    Crowded,
     Whole,
 }
 
@@ -82,15 +83,16 @@ fn pick(t: bool, a: usize, b: usize) -> usize
     if t { a } else { b }
 }
 
-// The largest byte 1 that a form takes: the table has its bits.
-fn arg_top(f: Form) -> u8
-    ensures { λ r. ⌜ r ≡ argTop f ⌝ }
+// Whether a form takes this byte 1: the table has how many bits it may have.
+fn takes_arg(f: Form, a: u8) -> bool
+    ensures { λ t. ⌜ t ≡ leb a (argTop f) ⌝ }
 {
-    ((1u64 << routine::digit_of(0x00008800010, f)) - 1) as u8
+    (a as u64) >> routine::digit_of(0x00008800010, f) == 0
 }
 
-// The table of the nodes passed has a word for each: the lowest node of its subtree, and `DEPTH` times its depth.
-const DEPTH: usize = 65536;
+// The table of the nodes passed has a word for each: the lowest node of its subtree, and `PLACE` times one more than its places, so that no
+// word is 0.
+const PLACE: usize = 65536;
 
 // The word of child j, read under a mask: where the node has no such child, j may be half of an integer, and a test whether it stands
 // past the table's end could not be foreseen.
@@ -101,18 +103,28 @@ fn entry(words: &[u32], mask: usize, j: u16) -> usize
     routine::usize_of_u32(words[usize_of_u16(j) & mask])
 }
 
-// How many children a form has, as `routine::digit_of` reads it, and the two forms that are not told by that: an integer's bytes 4-7 are a
-// number, and what is not in the table of kinds stands nowhere.
-const SHAPES: u64 = 0x82200132204;
+// The facts of a form, as `routine::digit_of` reads them: how many children it has, and `INSIDE` more where the second of them is worked inside
+// the form; and the two forms that are not told by that: an integer's bytes 4-7 are a number, and what is not in the table of kinds stands nowhere.
+const SHAPES: u64 = 0x8e20013ee04;
 
 const NUMBER: u64 = 4;
 
 const NOTHING: u64 = 8;
 
+const INSIDE: u64 = 12;
+
 fn children_of(f: Form) -> usize
     ensures { λ r. ⌜ (r ≡ childrenOf (shapeOf f)) × (r < 4) ⌝ }
 {
     (routine::digit_of(SHAPES, f) % 4) as usize
+}
+
+// Whether the second part is worked inside the form, as an operator's and a loop's are: the branches of an if and the second part of a
+// sequence are worked in the form's own place.
+fn is_inside(f: Form) -> bool
+    ensures { λ r. ⌜ r ≡ isInside f ⌝ }
+{
+    INSIDE <= routine::digit_of(SHAPES, f)
 }
 
 // Whether c stands where child c of node i must, `has` being 1 where the node has it and else 0: right before the subtree of the next child,
@@ -143,7 +155,7 @@ fn keeps(d: Node, i: usize, q: usize, r: usize) -> bool
     ensures { λ t. ⌜ t ≡ keepsNode d i q r ⌝ }
 {
     let f = d.form;
-    is_placed(f, i, d.first, d.second, d.third, q, r) & (d.arg <= arg_top(f))
+    is_placed(f, i, d.first, d.second, d.third, q, r) & takes_arg(f, d.arg)
 }
 
 fn larger(a: usize, b: usize) -> usize
@@ -152,14 +164,16 @@ fn larger(a: usize, b: usize) -> usize
     if a < b { b } else { a }
 }
 
-// The word of a node i that keeps the layout, from its children's: the largest word has the largest depth. Where it has one child or two, the
-// bytes of the others are 0, and node 0 is no deeper than any child.
+// The word of a node i that keeps the layout, from its children's: the largest word has the most places, and a part inside the form has one
+// more. Where it has one child or two, the bytes of the others are 0, and node 0 has no places. The second child's word is compared last: most
+// often it is the word of the node just before, and comes the latest.
 fn grown(f: Form, i: usize, p: usize, q: usize, r: usize) -> usize
     requires { ⌜ (i < 65536) × (p < 4294967296) × (q < 4294967296) × (r < 4294967296) ⌝ }
-    ensures { λ t. ⌜ t ≡ wordBy (shapeOf f) i p q r ⌝ }
+    ensures { λ t. ⌜ t ≡ wordBy f i p q r ⌝ }
 {
-    let deepest = larger(p, larger(q, r)) / DEPTH;
-    DEPTH + pick(1 <= children_of(f), p % DEPTH + DEPTH * deepest, i)
+    let inside = pick(is_inside(f), PLACE, 0);
+    let most = larger(inside + q, larger(PLACE + p, r)) / PLACE;
+    pick(1 <= children_of(f), p % PLACE + PLACE * most, PLACE + i)
 }
 
 // The word of node i, 0 where the node breaks the layout; the table holds those of the nodes before it.
@@ -172,7 +186,7 @@ fn word_at(b: &[u8], i: usize, mask: usize, words: &[u32]) -> usize
     let p = entry(words, mask, d.first);
     let q = entry(words, mask, d.second);
     let r = entry(words, mask, d.third);
-    if keeps(d, i, q % DEPTH, r % DEPTH) {
+    if keeps(d, i, q % PLACE, r % PLACE) {
         grown(f, i, p, q, r)
     } else {
         0
@@ -194,11 +208,11 @@ fn lay(b: &[u8], n: usize, mask: usize, words: &mut [u32]) -> Laid
         i += 1;
     }
     let root = routine::usize_of_u32(words[n - 1]);
-    if root % DEPTH != 0 {
+    if root % PLACE != 0 {
         return Laid::Forest;
     }
-    if 256 < root / DEPTH {
-        Laid::Deep
+    if 256 < root / PLACE - 1 {
+        Laid::Crowded
     } else {
         Laid::Whole
     }
@@ -229,7 +243,7 @@ fn open_nodes(b: &[u8], z: Sizes) -> Opened
     match layout(b, z.nodes) {
         Laid::Breaks(i) => Opened::Refused(Refusal::Layout(i)),
         Laid::Forest => Opened::Refused(Refusal::Forest),
-        Laid::Deep => Opened::Refused(Refusal::Depth),
+        Laid::Crowded => Opened::Refused(Refusal::Places),
         Laid::Whole => Opened::Routine(z),
     }
 }

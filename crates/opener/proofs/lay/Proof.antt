@@ -1,11 +1,13 @@
 -- `opener::lay` meets its contract. The invariant: a tree stands at each node passed, and the table holds its word.
 use borrow.Author.Needs.{needs}
 use native.Mathlib.Omega.{arith}
-use Prim.Native.Nat.{ℕ, _+_, _-_, _≤_, _<_}
+use Prim.Native.Nat.{ℕ, _+_, _-_, _/_, _≤_, _<_}
 use mathlib.Core.Path.{_≡_, refl}
 use lib.ListN.{length, length-set}
 use Rattle.stored.specs.Layout.{nodeStart, TreeAt}
-use Rattle.stored.specs.Reader.{treeAt}
+use Rattle.l1.specs.Measures.{size, places}
+use Rattle.stored.specs.Reader.{treeAt, StandBelow}
+use Rattle.stored.specs.Refusals.{count}
 use Rattle.routine.specs.Masks.{Covers}
 use Rattle.opener.proofs.NodeTrees.{WordOf}
 use Rattle.opener.proofs.LayoutTurn.{Passed, next-stands, next-breaks, next-passed, forest, whole}
@@ -62,17 +64,21 @@ fewer c =
     let h = at-end (c .before) in
     forest _ (h .loop .words) _ (λ j l. h .loop .inv .2 j (omega arith)) (h .before .before .before .pre .1) (omega arith) (omega arith)
 
-deep : tie.Need-returns-3 Inv-loop μ-loop
-deep c =
-    let h = at-end (c .before .before) in
+-- the root's word, where its subtree has all the nodes
+root-word : (c : tie.Else2 Inv-loop μ-loop)
+    → let h = at-end (c .before) in
+    let b = h .before .before .before .args .b .now in
+    StandBelow b (count b) × (size (treeAt b (count b - 1)) ≡ count b) × (c .before .usize-of-u32 .result / 65536 ≡ 1 + places (treeAt b (count b - 1)))
+root-word c =
+    let h = at-end (c .before) in
     let w = whole _ (h .loop .words) _ (λ j l. h .loop .inv .2 j (omega arith)) (h .before .before .before .pre .1) (omega arith) (omega arith) in
     (w .0, w .1, omega (arith, w .2))
 
-shallow : tie.Need-returns-4 Inv-loop μ-loop
-shallow c =
-    let h = at-end (c .before .before) in
-    let w = whole _ (h .loop .words) _ (λ j l. h .loop .inv .2 j (omega arith)) (h .before .before .before .pre .1) (omega arith) (omega arith) in
-    (w .0, w .1, omega (arith, w .2))
+crowded : tie.Need-returns-3 Inv-loop μ-loop
+crowded c = let w = root-word (c .before) in (w .0, w .1, omega (arith, w .2))
+
+fits : tie.Need-returns-4 Inv-loop μ-loop
+fits c = let w = root-word (c .before) in (w .0, w .1, omega (arith, w .2))
 
 pub lay-spec : {M : Type 1} → statement M
 lay-spec =
@@ -97,7 +103,8 @@ lay-spec =
     (λ c κs. search needs)
     (λ c. at-end (c .before) .loop .inv .1)
     fewer
+    (λ c. omega (arith, root-word c .2))
     (λ c. at-end (c .before .before) .loop .inv .1)
-    deep
+    crowded
     (λ c. at-end (c .before .before) .loop .inv .1)
-    shallow)
+    fits)

@@ -7,7 +7,7 @@ use mathlib.Core.List.{List}
 use Rattle.stored.specs.Layout.{child2, child3}
 use Rattle.routine.specs.declared.Node.{Node}
 use Rattle.routine.specs.Forms.{nodeOf}
-use Rattle.opener.specs.Shapes.{shapeOf, keepsNode, wordBy, wordAt}
+use Rattle.opener.specs.Shapes.{keepsNode, wordBy, wordAt}
 use Rattle.opener.proofs.word_at.Statement.{statement}
 use Rattle.opener.proofs.word_at.Tie as tie
 
@@ -16,7 +16,7 @@ module _ (b : List ℕ) (i : ℕ) (s : ℕ → ℕ) {d : Node} {q r : ℕ} {t : 
   told : t ≡ keepsNode (nodeOf b i) i (s (child2 b i) % 65536) (s (child3 b i) % 65536)
   told = asked ∙ simp (second, third, its)
 
-  where-kept : {p k : ℕ} → t ≡ true → p ≡ s (d .first) → k ≡ wordBy (shapeOf (d .form)) i p q r → k ≡ wordAt b i s
+  where-kept : {p k : ℕ} → t ≡ true → p ≡ s (d .first) → k ≡ wordBy (d .form) i p q r → k ≡ wordAt b i s
   unfolding wordAt
   where-kept e first grows = rw (sym told ∙ e) (grows ∙ rw (first, second, third, its))
 
