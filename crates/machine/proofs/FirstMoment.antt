@@ -25,5 +25,6 @@ first-moment {b} {s} {p} {m} ok c r (h, n) (l, t, k, r₀) = record {
   last = no-step t;
   seen = l .seen;
   frames = n;
+  room = omega arith;
   held = λ j lt. absurd (omega arith);
 }

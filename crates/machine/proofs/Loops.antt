@@ -21,8 +21,6 @@ use Rattle.machine.specs.Moment.{meaning, LastStep, Moment}
 use Rattle.machine.specs.declared.state.Work.{Work}
 use Rattle.machine.specs.declared.state.Work.the-variants as w
 use Rattle.machine.specs.declared.state.Place.{Place}
-use Rattle.machine.specs.declared.state.Act.{Act}
-use Rattle.machine.specs.declared.state.Act.the-variants as a
 use Rattle.machine.specs.declared.state.Frame.{Frame}
 use Rattle.machine.specs.declared.state.Pending.{Pending}
 use Rattle.machine.specs.declared.state.Machine.{Machine}
@@ -30,7 +28,7 @@ use Rattle.machine.specs.declared.state.Next.{Next}
 use Rattle.machine.specs.declared.state.Ending.{Ending}
 use Rattle.machine.specs.declared.state.Ending.the-variants as e
 use Rattle.machine.proofs.Stacks.{plug-step, plug-overflow, plug-typed}
-use Rattle.machine.proofs.Turns.{split, search-split, stands, joined, held-after, over-of, step-of, within-of, one-at-most, kept-of, moved, left, falls, height-fits, keeps-length, search-fits}
+use Rattle.machine.proofs.Turns.{split, search-split, stands, joined, held-after, over-of, step-of, within-of, one-at-most, kept-of, moved, left, falls, room-after, keeps-length, search-fits}
 
 -- ---- what a loop asks, keeps and says
 
@@ -59,12 +57,6 @@ pub record ActAt (b : List ℕ) (s : Store) (p : Pending) (m : Machine) (at : �
 pub in-store : {b : List ℕ} {s : Store} {p : Pending} {m : Machine} {at : ℕ} {r : Next} → ActAt b s p m at r → Within (length s) (r .act)
 in-store t = within-of (t .stepped .went)
 
-pub grows-by-one : (d : Act) → growsOf d ≤ 1
-grows-by-one a.Push = omega arith
-grows-by-one a.Rest = omega arith
-grows-by-one (a.Write l n) = omega arith
-grows-by-one (a.Over i) = omega arith
-
 -- ---- the places of a moment
 
 -- a value with no place left is the end
@@ -83,7 +75,7 @@ same : (b : List ℕ) (p : Pending) (m : Machine) (at : ℕ) → at + takesOf (m
 same b p m at q = split b (p .frames) at (m .work) (p .height) q
 
 room-in : {b : List ℕ} {s₀ s : Store} {p : Pending} {m : Machine} → Moment b s₀ s p m → (at : ℕ) → at + takesOf (m .work) ≡ p .height → at < length (p .frames)
-room-in i at q = omega (arith, height-fits i, i .frames)
+room-in i at q = omega (arith, i .room, i .frames)
 
 -- ---- a turn
 
@@ -93,8 +85,9 @@ module _ {b : List ℕ} {limit : ℕ} {s₀ s : Store} {p₀ p : Pending} {m₀ 
     here : Moment b (a .2 .0) s p m
     here = k .moment _ (a .2 .1)
 
-    pub few-places : p .height < 256
-    few-places = height-fits here
+    -- the frame that the act reads and writes
+    pub frame-below : (at : ℕ) → at + takesOf (m .work) ≡ p .height → at < 256
+    frame-below at q = omega (arith, here .room)
 
     pub room : (at : ℕ) → at + takesOf (m .work) ≡ p .height → at < length (p .frames)
     room = room-in here
@@ -158,17 +151,20 @@ module _ {b : List ℕ} {limit : ℕ} {s₀ s : Store} {p₀ p : Pending} {m₀ 
             let run = subst (λ (x : Expr). Run (m .steps) (m .loops) (rootOf b) z x s) (same b p m at (t .parts)) (i .run) in
             let last = subst (λ (x : Expr). LastStep (rootOf b) z (m .steps) x s (m .rule)) (same b p m at (t .parts)) (i .last) in
             let (run′, last′) = moved (stack b (p .frames) at) run last (g .went) n in
-            let (seen′, held′) = kept-of (g .went) n in
+            let (seen′, held′, for) = kept-of (g .went) n in
             let room = room-in i at (t .parts) in
             let after = joined b (p .frames) at (r .top) room (r .act) (exprOf b (r .to .work)) n in
+            let p″ : Pending = record { frames = set (p .frames) at (record { place = r .top }); height = at + growsOf (r .act) } in
+            let on : Run (r .to .steps) (r .to .loops) (rootOf b) z (meaning b p″ (r .to)) (written s (r .act)) = rw (after, g .steps, g .loops) run′ in
             rw (q, grows, stored)
             (record {
               runnable = i .runnable;
               covered = i .covered;
-              run = rw (after, g .steps, g .loops) run′;
+              run = on;
               last = rw (after, g .steps, g .last) last′;
               seen = seen′;
               frames = length-set (p .frames) at _ ∙ i .frames;
+              room = room-after (i .runnable) p″ (r .to) at (r .act) refl (omega (arith, i .room, t .parts)) for on;
               held = held-after b (p .frames) at (r .top) room (r .act) held′ (λ j l. i .held j (omega (arith, t .parts)));
             })
 

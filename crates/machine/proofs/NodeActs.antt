@@ -2,16 +2,17 @@
 use Prim.Native.Nat.{ℕ, _+_, _*_, _≤_, _<_}
 use native.Mathlib.Omega.{arith}
 use mathlib.Core.Path.{_≡_, refl, sym, _∙_, ap, subst}
-use mathlib.Core.Bool.{Bool, true}
+use mathlib.Core.Bool.{Bool, true, false}
 use mathlib.Core.List.{List}
 use lib.IntN.{ℤ}
 use lib.ListN.{length}
-use Rattle.l1.specs.Syntax.{Expr, int, bool, if_then_else_, !_, skip, _⨾_, while_do′_done, Ty, tInt}
+use Rattle.l1.proofs.Clash.{clash}
+use Rattle.l1.specs.Syntax.{Expr, int, bool, if_then_else_, !_, skip, _⨾_, while_do′_done, Ty, tInt, tBool, tUnit}
 use Rattle.l1.specs.Store.{Store, _∈dom_, lookup}
 use Rattle.l1.specs.Steps.{Rule, by-deref, by-while, ⟨_∣_⟩⟶⟨_∣_⟩_, deref, while}
-use Rattle.l1.specs.Typing.{TypeEnv, _⊢_∶_, t-deref}
-use Rattle.l1.specs.Measures.{size}
-use Rattle.stored.specs.Layout.{kind, arg, child1, child2}
+use Rattle.l1.specs.Typing.{TypeEnv, _⊢_∶_, t-deref, t-while}
+use Rattle.l1.specs.Measures.{size, places}
+use Rattle.stored.specs.Layout.{kind, arg, child1, child2, TreeAt, at-int, at-bool, at-op, at-if, at-assign, at-deref, at-skip, at-seq, at-while}
 use Rattle.stored.specs.Reader.{treeAt}
 use Rattle.stored.specs.Refusals.{locations, count, env}
 use Rattle.routine.specs.declared.Form.{Form}
@@ -22,7 +23,7 @@ use Rattle.routine.proofs.Made.{made, before}
 use Rattle.routine.proofs.Standing.{is-headed, nodes-stand}
 use Rattle.machine.specs.Contexts.{fill, left-to-search}
 use Rattle.machine.specs.State.{exprOf, Busy, isDeref, Seen, searchOf, nodeOf, contextOf, Held}
-use Rattle.machine.specs.Acts.{after, HeldBy, written, Within, ruleNo, Went, searched, worked, Loaded, Gone, Sought, went-down, read-there}
+use Rattle.machine.specs.Acts.{after, HeldBy, PushedFor, written, Within, ruleNo, Went, searched, worked, Loaded, Gone, NoDeref, Sought, went-down, read-there}
 use Rattle.machine.specs.declared.state.Work.{Work}
 use Rattle.machine.specs.declared.state.Work.the-variants as w
 use Rattle.machine.specs.declared.state.Place.{Place}
@@ -38,11 +39,11 @@ Turned b c e s t = Went b c e s (t .work) (t .act) (t .top) (t .rule)
 
 -- a loaded node after a step
 pub to-node : {b : List ℕ} {c j : ℕ} {e : Expr} {s : Store} {r : Rule} {d : Act} {g : Place} {t : Turn}
-    → ⟨ e ∣ s ⟩⟶⟨ after b d g (treeAt b j) ∣ written s d ⟩ r → HeldBy b d g → Within (length s) d → Gone b j d g (ruleNo r) t
+    → ⟨ e ∣ s ⟩⟶⟨ after b d g (treeAt b j) ∣ written s d ⟩ r → HeldBy b d g → PushedFor b d (t .work) → Within (length s) d → Gone b j d g (ruleNo r) t
     → Turned b c e s t
-to-node {r = r} {d = d} {g = g} {t = t} step held within gone =
+to-node {r = r} {d = d} {g = g} {t = t} step held for within gone =
     rw (gone .act, gone .top, gone .rule)
-    (worked {r = r} {y = t .work} {d = d} {g = g} (rw (gone .loaded .same) step) (gone .loaded .seen) held within)
+    (worked {r = r} {y = t .work} {d = d} {g = g} (rw (gone .loaded .same) step) (gone .loaded .seen) held for within)
 
 -- the turn of a value that no place is pushed for, as `comes_to` makes it
 abbrev pub CameTo : Work → Act → ℕ → Turn → Type 0
@@ -72,7 +73,7 @@ gone-by p q gone = record { loaded = rw (← p) (gone .loaded); act = gone .act;
 -- the same operand and place by other names
 pub sought-by : {b : List ℕ} {s : Store} {j j′ : ℕ} {g g′ : Place} {t : Turn}
     → j ≡ j′ → g ≡ g′ → Sought b s j g t → Sought b s j′ g′ t
-sought-by p q (went-down gone) = went-down (gone-by p q gone)
+sought-by {b} p q (went-down other gone) = went-down (λ l e. other l (ap (treeAt b) p ∙ e)) (gone-by p q gone)
 sought-by {b} p q (read-there tree h work act top rule) = read-there (ap (treeAt b) (sym p) ∙ tree) h work act (top ∙ q) rule
 
 -- an operand that is read where the search finds it
@@ -86,12 +87,43 @@ reads-there {b} {l = l} {s = s} {g = g} e h held work act top rule =
     (subst (λ (x : Expr). ⟨ x ∣ s ⟩⟶⟨ fill (contextOf b g) (int (lookup s l)) ∣ s ⟩ by-deref) (sym e) (fill-step (contextOf b g) (deref h refl)))
     tt
     held
+    (omega arith)
     tt)
 
 pub below : {k l n : ℕ} → k ≡ l → l < n → k < n
 below e h = omega arith
 
+-- ---- what a place is pushed for
+
+-- a test and what stands first in a sequence are no dereference, which is an int
+pub no-deref-bool : {Γ : TypeEnv} {e : Expr} → Γ ⊢ e ∶ tBool → NoDeref e
+no-deref-bool {Γ} d l q = elim (subst (λ (x : Expr). Γ ⊢ x ∶ tBool) q d) [ ]
+
+pub no-deref-unit : {Γ : TypeEnv} {e : Expr} → Γ ⊢ e ∶ tUnit → NoDeref e
+no-deref-unit {Γ} d l q = elim (subst (λ (x : Expr). Γ ⊢ x ∶ tUnit) q d) [ ]
+
+pub test-typed : {Γ : TypeEnv} {e₁ e₂ : Expr} {T : Ty} → Γ ⊢ while e₁ do′ e₂ done ∶ T → Γ ⊢ e₁ ∶ tBool
+test-typed (t-while h₁ h₂) = h₁
+
+-- what is no literal and no dereference has places
+has-places : {b : List ℕ} {i : ℕ} {e : Expr} → TreeAt b i e → Busy (formOf (kind b i)) → NoDeref e → 0 < places e
+has-places (at-int n v) busy other = absurd (rw (n .its-kind) at busy)
+has-places (at-bool n) busy other = absurd (rw (n .its-kind) at busy)
+has-places (at-op n p q t₁ t₂) busy other = omega arith
+has-places (at-if n p q r t₁ t₂ t₃) busy other = omega arith
+has-places (at-assign n p t) busy other = omega arith
+has-places (at-deref n) busy other = absurd (other _ refl)
+has-places (at-skip n) busy other = absurd (rw (n .its-kind) at busy)
+has-places (at-seq n p q t₁ t₂) busy other = omega arith
+has-places (at-while n p q t₁ t₂) busy other = omega arith
+
 module _ {b : List ℕ} (ok : Runnable b) where
+  pub pushed-for : (y : Work) {j : ℕ} → Loaded b j y → NoDeref (treeAt b j) → PushedFor b a.Push y
+  pushed-for (w.Node i) l other = omega (arith, has-places (nodes-stand (ok .opens) (ok .holds) i (l .seen .0)) (l .seen .1) (λ k q. other k (sym (l .same) ∙ q)))
+  pushed-for (w.Int n) l other = omega arith
+  pushed-for (w.Bool t) l other = omega arith
+  pushed-for w.Skip l other = omega arith
+
   pub few-nodes : count b ≤ 4096
   few-nodes = is-headed (ok .opens) (ok .holds) .few-nodes
 
@@ -122,14 +154,15 @@ module _ {b : List ℕ} (ok : Runnable b) {i : ℕ} (lt : i < count b) {F : Form
   pub down : {s : Store} {g : Place} {j : ℕ} {t : Turn}
       → make F b i (treeAt b) ≡ fill (contextOf b g) (treeAt b j) → Held b g
       → left-to-search (contextOf b g) + 2 * size (treeAt b j) < 2 * size (make F b i (treeAt b))
-      → Gone b j a.Push g 0 t
+      → NoDeref (treeAt b j) → Gone b j a.Push g 0 t
       → Turned b (2 * size (treeAt b i)) (treeAt b i) s t
-  down {g = g} {t = t} e held less gone =
+  down {g = g} {t = t} e held less other gone =
       rw (gone .act, gone .top, gone .rule)
       (searched {y = t .work} {g = g}
       (ap (fill (contextOf b g)) (gone .loaded .same) ∙ sym e ∙ sym at-form)
       (gone .loaded .seen)
       held
+      (pushed-for ok (t .work) (gone .loaded) other)
       (omega (arith, less, ap size at-form, gone .loaded .search)))
 
   -- the search goes to the operand j, or reads it
@@ -138,7 +171,7 @@ module _ {b : List ℕ} (ok : Runnable b) {i : ℕ} (lt : i < count b) {F : Form
       → left-to-search (contextOf b g) + 2 * size (treeAt b j) < 2 * size (make F b i (treeAt b))
       → Sought b s j g t
       → Turned b (2 * size (treeAt b i)) (treeAt b i) s t
-  seeks e held less (went-down gone) = down e held less gone
+  seeks e held less (went-down other gone) = down e held less other gone
   seeks {g = g} e held less (read-there tree h work act top rule) =
       reads-there (at-form ∙ e ∙ ap (fill (contextOf b g)) tree) h held work act top rule
 
@@ -155,9 +188,9 @@ module _ {b : List ℕ} (ok : Runnable b) {i : ℕ} (lt : i < count b) {F : Form
 
   -- a loop becomes its `if`
   pub unfolds : {c : ℕ} {s : Store} {t : Turn}
-      → F ≡ While → child2 b i < count b → Gone b (child1 b i) a.Push (p.Again i) 8 t
+      → F ≡ While → child2 b i < count b → NoDeref (treeAt b (child1 b i)) → Gone b (child1 b i) a.Push (p.Again i) 8 t
       → Turned b c (treeAt b i) s t
-  unfolds {s = s} f held gone =
+  unfolds {s = s} {t = t} f held other gone =
       let z : treeAt b i ≡ while treeAt b (child1 b i) do′ treeAt b (child2 b i) done = at-form ∙ rw f in
       to-node {r = by-while} {d = a.Push} {g = p.Again i}
       (subst
@@ -165,6 +198,7 @@ module _ {b : List ℕ} (ok : Runnable b) {i : ℕ} (lt : i < count b) {F : Form
       (sym z)
       (while))
       (lt, held)
+      (pushed-for ok (t .work) (gone .loaded) other)
       tt
       gone
 
@@ -191,6 +225,13 @@ deref-told Seq e = cc
 deref-told While e = cc
 deref-told Unknown e = cc
 
+deref-kind : {b : List ℕ} {i l : ℕ} → TreeAt b i (! l) → isDeref (formOf (kind b i)) ≡ true
+deref-kind (at-deref n) = rw (n .its-kind)
+
+-- what has not the form of a dereference
+pub no-deref-form : {b : List ℕ} → Runnable b → {i : ℕ} → i < count b → isDeref (formOf (kind b i)) ≡ false → NoDeref (treeAt b i)
+no-deref-form {b} ok {i} lt f l q = clash (sym f ∙ deref-kind (subst (TreeAt b i) q (nodes-stand (ok .opens) (ok .holds) i lt)))
+
 -- a dereference
 module _ {b : List ℕ} (ok : Runnable b) {i : ℕ} (lt : i < count b) (q : formOf (kind b i) ≡ Deref) where
   pub derefs : {c l : ℕ} {n : ℤ} {s : Store}
@@ -201,6 +242,7 @@ module _ {b : List ℕ} (ok : Runnable b) {i : ℕ} (lt : i < count b) (q : form
       (subst (λ (e : Expr). ⟨ e ∣ s ⟩⟶⟨ int n ∣ s ⟩ by-deref) (ap !_ e ∙ sym (at-form ok lt q)) (deref h v))
       tt
       tt
+      (omega arith)
       tt
 
   pub deref-tree : {l : ℕ} → l ≡ arg b i → treeAt b i ≡ ! l

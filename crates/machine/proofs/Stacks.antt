@@ -1,5 +1,5 @@
 -- Steps, overflows and types through the contexts, and how many contexts an expression on the run of a row can have.
-use Prim.Native.Nat.{ℕ, _+_, _≤_, _<_}
+use Prim.Native.Nat.{ℕ, _+_, _≤_}
 use native.Mathlib.Omega.{arith}
 use mathlib.Core.List.{List, [], _∷_}
 use lib.ListN.{length}
@@ -9,8 +9,8 @@ use Rattle.l1.specs.Typing.{TypeEnv, _⊢_∶_, t-op+, t-op≥, t-if, t-assign,
 use Rattle.l1.specs.Steps.{Rule, ⟨_∣_⟩⟶⟨_∣_⟩_, op1, op2, assign2, seq2, if3}
 use Rattle.l1.specs.Overflow.{_overflows-at_, over-op1, over-op2, over-assign2, over-seq2, over-if3}
 use Rattle.l1.specs.Run.{Run}
-use Rattle.l1.specs.Measures.{depth}
-use Rattle.l1.proofs.Places.{places, places-below-depth, run-adds-no-places}
+use Rattle.l1.specs.Measures.{places}
+use Rattle.l1.proofs.Places.{run-adds-no-places}
 use Rattle.machine.specs.Contexts.{Context, in-op1, in-op2, in-if3, in-assign2, in-seq2, fill, plug}
 
 pub fill-step : (f : Context) {r : Rule} {e e′ : Expr} {s s′ : Store} → ⟨ e ∣ s ⟩⟶⟨ e′ ∣ s′ ⟩ r → ⟨ fill f e ∣ s ⟩⟶⟨ fill f e′ ∣ s′ ⟩ r
@@ -67,6 +67,6 @@ plug-places : (k : List Context) (e : Expr) → length k + places e ≤ places (
 plug-places [] e = omega arith
 plug-places (f ∷ k) e = omega (arith, plug-places k (fill f e), fill-places f e)
 
--- the contexts of an expression on the run of a row are fewer than the row is deep
-pub stack-fits : {T K : ℕ} {e : Expr} {s s′ : Store} (k : List Context) (e′ : Expr) → Run T K e s (plug k e′) s′ → length k < depth e
-stack-fits {e = e} k e′ ds = omega (arith, plug-places k e′, run-adds-no-places ds, places-below-depth e)
+-- the contexts of an expression on the run of a row, with the places of the part at work, are no more than the row's places
+pub stack-fits : {T K : ℕ} {e : Expr} {s s′ : Store} (k : List Context) (e′ : Expr) → Run T K e s (plug k e′) s′ → length k + places e′ ≤ places e
+stack-fits k e′ ds = omega (arith, plug-places k e′, run-adds-no-places ds)

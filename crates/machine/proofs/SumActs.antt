@@ -42,7 +42,7 @@ module _ (l v : ℤ) where
     pub sums : {n : ℤ} → sumOf l v ≡ In n → CameTo (w.Int n) a.Rest 1 t → Summed i l v t
     sums {n} q came =
         let (e, h) = in-sum q in
-        record { went = λ b c s. came-to came (worked {r = by-plus} {y = w.Int n} {d = a.Rest} {g = p.Blank} (op+ e h) tt tt tt) }
+        record { went = λ b c s. came-to came (worked {r = by-plus} {y = w.Int n} {d = a.Rest} {g = p.Blank} (op+ e h) tt tt (omega arith) tt) }
 
     pub overflows : sumOf l v ≡ Out → CameTo w.Skip (a.Over i) 0 t → Summed i l v t
     overflows q came = record { went = λ b c s. came-to came (over (o.over (out-sum q))) }

@@ -1,4 +1,4 @@
--- A turn of the machine: the places before and after an act, what an act tells, and that less is left after it.
+-- A turn of the machine: the places before and after an act, what an act tells, that less is left after it, and that the next act has a frame.
 use Prim.Native.Nat.{ℕ, zero, suc, _+_, _-_, _*_, _≤_, _<_}
 use native.Mathlib.Nat.{add-zero}
 use native.Mathlib.Omega.{arith}
@@ -19,12 +19,12 @@ use Rattle.l1.proofs.Runs.{run-keeps-locations, run-then-step}
 use Rattle.stored.specs.Reader.{treeAt}
 use Rattle.stored.specs.Refusals.{count}
 use Rattle.stored.proofs.Subtrees.{size-fits}
-use Rattle.routine.specs.Open.{Runnable}
-use Rattle.routine.proofs.Standing.{root-depth, nodes-stand}
+use Rattle.routine.specs.Open.{rootOf, Runnable}
+use Rattle.routine.proofs.Standing.{root-places, nodes-stand}
 use Rattle.machine.specs.Contexts.{Context, plug, left-to-search, all-left}
 use Rattle.machine.specs.State.{exprOf, Seen, searchOf, takesOf, contextOf, Held, redex, HeldUnder, searchAt, blank, stack}
-use Rattle.machine.specs.Moment.{LastStep, last-step, Moment}
-use Rattle.machine.specs.Acts.{after, HeldBy, growsOf, isOver, overAt, written, Within, ruleNo, madeBy, turnedBy, lastRule, Went, searched, worked, over}
+use Rattle.machine.specs.Moment.{meaning, LastStep, last-step, Moment}
+use Rattle.machine.specs.Acts.{after, HeldBy, PushedFor, growsOf, isOver, overAt, written, Within, ruleNo, madeBy, turnedBy, lastRule, Went, searched, worked, over}
 use Rattle.machine.specs.declared.state.Work.{Work}
 use Rattle.machine.specs.declared.state.Work.the-variants as w
 use Rattle.machine.specs.declared.state.Place.{Place}
@@ -128,29 +128,29 @@ held-over b (a.Over i) g h o = absurd h
 
 module _ {b : List ℕ} {c : ℕ} {e : Expr} {s : Store} where
   pub over-of : {y : Work} {d : Act} {g : Place} {ρ : ℕ} → Went b c e s y d g ρ → isOver d ≡ true → e overflows-at overAt d
-  over-of (searched q v h l) o = clash o
-  over-of (worked {d = d} {g = g} x v h i) o = held-over b d g h o
+  over-of (searched q v h f l) o = clash o
+  over-of (worked {d = d} {g = g} x v h f i) o = held-over b d g h o
   over-of (over x) o = x
 
   pub step-of : {y : Work} {d : Act} {g : Place} {ρ : ℕ} → Went b c e s y d g ρ → 0 < madeBy ρ
       → (r : Rule) × (e′ : Expr) × (s′ : Store) × (⟨ e ∣ s ⟩⟶⟨ e′ ∣ s′ ⟩ r)
-  step-of (searched q v h l) o = absurd (omega arith)
-  step-of (worked {r = r} x v h i) o = (r, _, _, x)
+  step-of (searched q v h f l) o = absurd (omega arith)
+  step-of (worked {r = r} x v h f i) o = (r, _, _, x)
   step-of (over x) o = absurd (omega arith)
 
   pub within-of : {y : Work} {d : Act} {g : Place} {ρ : ℕ} → Went b c e s y d g ρ → Within (length s) d
-  within-of (searched q v h l) = tt
-  within-of (worked x v h i) = i
+  within-of (searched q v h f l) = tt
+  within-of (worked x v h f i) = i
   within-of (over x) = tt
 
   pub one-at-most : {y : Work} {d : Act} {g : Place} {ρ : ℕ} → Went b c e s y d g ρ → madeBy ρ ≤ 1
-  one-at-most (searched q v h l) = omega arith
-  one-at-most (worked {r = r} x v h i) = omega (arith, rule-counts r .0)
+  one-at-most (searched q v h f l) = omega arith
+  one-at-most (worked {r = r} x v h f i) = omega (arith, rule-counts r .0)
   one-at-most (over x) = omega arith
 
-  pub kept-of : {y : Work} {d : Act} {g : Place} {ρ : ℕ} → Went b c e s y d g ρ → isOver d ≡ false → Seen b y × HeldBy b d g
-  kept-of (searched q v h l) o = (v, h)
-  kept-of (worked x v h i) o = (v, h)
+  pub kept-of : {y : Work} {d : Act} {g : Place} {ρ : ℕ} → Went b c e s y d g ρ → isOver d ≡ false → Seen b y × HeldBy b d g × PushedFor b d y
+  kept-of (searched q v h f l) o = (v, h, f)
+  kept-of (worked x v h f i) o = (v, h, f)
   kept-of (over x) o = clash (sym o)
 
   -- the run goes on, and its last step is the act's where the act is a step; a move of the search leaves the expression as it was
@@ -158,8 +158,8 @@ module _ {b : List ℕ} {c : ℕ} {e : Expr} {s : Store} where
       → Run T K e₀ s₀ (plug k e) s → LastStep e₀ s₀ T (plug k e) s last → Went b c e s y d g ρ → isOver d ≡ false
       → Run (T + madeBy ρ) (K + turnedBy ρ) e₀ s₀ (plug k (after b d g (exprOf b y))) (written s d)
       × LastStep e₀ s₀ (T + madeBy ρ) (plug k (after b d g (exprOf b y))) (written s d) (lastRule ρ last)
-  moved {T = T} {K = K} k ds l (searched q v h n) o = rw (add-zero T, add-zero K, q) (ds, l)
-  moved {T = T} {last = last} k ds l (worked {r = r} x v h i) o =
+  moved {T = T} {K = K} k ds l (searched q v h f n) o = rw (add-zero T, add-zero K, q) (ds, l)
+  moved {T = T} {last = last} k ds l (worked {r = r} x v h f i) o =
       let (one, turns, is-last) = rule-counts r in
       let d = plug-step k x in
       (rw (one, turns) (run-then-step ds d), last-step {T′ = T} (omega arith) ds d (is-last last))
@@ -184,8 +184,8 @@ pub falls : (b : List ℕ) (fs : List Frame) (at : ℕ) → at < length fs
     → Went b c e s y d g ρ → T′ ≡ T + madeBy ρ → T′ ≤ limit → isOver d ≡ false
     → (limit - T′) * room-of-search + (all-left (stack b (set fs at (record { place = g })) (at + growsOf d)) + searchOf b y)
     < (limit - T) * room-of-search + R
-falls b fs at room T q n (searched {g = g} f v h l) t u o = omega (arith, search-joined b fs at g room)
-falls b fs at room T q n (worked {r = r} x v h i) t u o = omega (arith, rule-counts r .0)
+falls b fs at room T q n (searched {g = g} x v h f l) t u o = omega (arith, search-joined b fs at g room)
+falls b fs at room T q n (worked {r = r} x v h f i) t u o = omega (arith, rule-counts r .0)
 falls b fs at room T q n (over x) t u o = clash (sym o)
 
 module _ {b : List ℕ} (ok : Runnable b) where
@@ -216,12 +216,30 @@ module _ {b : List ℕ} (ok : Runnable b) where
 
 -- ---- a moment
 
+takes-one : (y : Work) → takesOf y ≤ 1
+takes-one (w.Node i) = omega arith
+takes-one (w.Int n) = omega arith
+takes-one (w.Bool t) = omega arith
+takes-one w.Skip = omega arith
+
+pub grows-by-one : (d : Act) → growsOf d ≤ 1
+grows-by-one a.Push = omega arith
+grows-by-one a.Rest = omega arith
+grows-by-one (a.Write l n) = omega arith
+grows-by-one (a.Over i) = omega arith
+
+-- where the act was made in a frame, there is one for the next
+pub room-after : {b : List ℕ} → Runnable b → (p : Pending) (m : Machine) (at : ℕ) (d : Act) {T K : ℕ} {s s′ : Store}
+    → p .height ≡ at + growsOf d → at < 256 → PushedFor b d (m .work) → Run T K (rootOf b) s (meaning b p m) s′
+    → p .height < 256 + takesOf (m .work)
+room-after {b} ok p m at d q l f ds =
+    let few = root-places (ok .opens) (ok .holds) in
+    let all = stack-length b (p .frames) (p .height) in
+    omega (arith, stack-fits (stack b (p .frames) (p .height)) (exprOf b (m .work)) ds, grows-by-one d)
+
 module _ {b : List ℕ} {s₀ s : Store} {p : Pending} {m : Machine} (i : Moment b s₀ s p m) where
-  pub height-fits : p .height < 256
-  height-fits =
-      let deep = root-depth (i .runnable .opens) (i .runnable .holds) in
-      let n = stack-length b (p .frames) (p .height) in
-      omega (arith, stack-fits (stack b (p .frames) (p .height)) (exprOf b (m .work)) (i .run))
+  pub height-fits : p .height ≤ 256
+  height-fits = omega (arith, i .room, takes-one (m .work))
 
   pub keeps-length : length s ≡ length s₀
   keeps-length = run-keeps-locations (i .run)

@@ -6,14 +6,14 @@ use mathlib.Core.List.{List}
 use lib.Dec.{eqb}
 use lib.IntN.{ℤ}
 use lib.ListN.{length}
-use Rattle.l1.specs.Syntax.{plus, Expr, int, _‹_#_›_, !_}
+use Rattle.l1.specs.Syntax.{plus, Loc, Expr, int, _‹_#_›_, !_}
 use Rattle.l1.specs.Store.{Store, _∈dom_, lookup, update}
 use Rattle.l1.specs.Steps.{Rule, by-plus, by-geq, by-deref, by-assign, by-seq, by-if-true, by-if-false, by-while, ⟨_∣_⟩⟶⟨_∣_⟩_}
 use Rattle.l1.specs.Overflow.{_overflows-at_}
-use Rattle.l1.specs.Measures.{size}
+use Rattle.l1.specs.Measures.{size, places}
 use Rattle.stored.specs.Reader.{treeAt}
 use Rattle.machine.specs.Contexts.{fill, left-to-search}
-use Rattle.machine.specs.State.{exprOf, Seen, searchOf, contextOf, Held}
+use Rattle.machine.specs.State.{exprOf, Seen, searchOf, takesOf, contextOf, Held}
 use Rattle.machine.specs.declared.state.Work.{Work}
 use Rattle.machine.specs.declared.state.Work.the-variants as w
 use Rattle.machine.specs.declared.state.Place.{Place}
@@ -68,6 +68,10 @@ Within k a.Rest = Unit
 Within k (a.Write l n) = l < k
 Within k (a.Over i) = Unit
 
+-- a place is pushed for a value, which stands in it, or for a node that has places itself, so never for a dereference (`room` of `Moment` says why)
+abbrev pub PushedFor : List ℕ → Act → Work → Type 0
+PushedFor b d y = growsOf d ≤ takesOf y + places (exprOf b y)
+
 -- ---- the rules by numbers, from 1; 0 is a move of the search
 
 abbrev pub ruleNo : Rule → ℕ
@@ -94,10 +98,10 @@ lastRule ρ before = cond (eqb ρ 0) before ρ
 -- an act at e and s, where c was left to search: the next work y, the act with the place that it may push, and the number of its rule
 pub data Went (b : List ℕ) (c : ℕ) (e : Expr) (s : Store) : Work → Act → Place → ℕ → Type 0 where
   searched : {y : Work} {g : Place}
-      → fill (contextOf b g) (exprOf b y) ≡ e → Seen b y → Held b g → left-to-search (contextOf b g) + searchOf b y < c
+      → fill (contextOf b g) (exprOf b y) ≡ e → Seen b y → Held b g → PushedFor b a.Push y → left-to-search (contextOf b g) + searchOf b y < c
       → Went b c e s y a.Push g 0
   worked : {r : Rule} {y : Work} {d : Act} {g : Place}
-      → ⟨ e ∣ s ⟩⟶⟨ after b d g (exprOf b y) ∣ written s d ⟩ r → Seen b y → HeldBy b d g → Within (length s) d
+      → ⟨ e ∣ s ⟩⟶⟨ after b d g (exprOf b y) ∣ written s d ⟩ r → Seen b y → HeldBy b d g → PushedFor b d y → Within (length s) d
       → Went b c e s y d g (ruleNo r)
   over : {y : Work} {n : ℕ} {g : Place}
       → e overflows-at n
@@ -123,9 +127,12 @@ pub record Gone (b : List ℕ) (c : ℕ) (d : Act) (g : Place) (ρ : ℕ) (r : T
   pub top : r .top ≡ g
   pub rule : r .rule ≡ ρ
 
+abbrev pub NoDeref : Expr → Type 0
+NoDeref e = (l : Loc) → e ≡ ! l → ⊥
+
 -- the search went to the operand c under the place g, or read it where it is a dereference
 pub data Sought (b : List ℕ) (s : Store) (c : ℕ) (g : Place) (r : Turn) : Type 0 where
-  went-down : Gone b c a.Push g 0 r → Sought b s c g r
+  went-down : NoDeref (treeAt b c) → Gone b c a.Push g 0 r → Sought b s c g r
   read-there : {l : ℕ} → treeAt b c ≡ ! l → l ∈dom s
       → r .work ≡ w.Int (lookup s l) → r .act ≡ a.Push → r .top ≡ g → r .rule ≡ ruleNo by-deref
       → Sought b s c g r

@@ -1,5 +1,5 @@
 -- The moment of a run that a state stands for.
-use Prim.Native.Nat.{ℕ, suc, _<_, _≤_}
+use Prim.Native.Nat.{ℕ, suc, _+_, _<_, _≤_}
 use mathlib.Core.Path.{_≡_}
 use mathlib.Core.List.{List}
 use lib.ListN.{getD, length}
@@ -10,7 +10,7 @@ use Rattle.l1.specs.Run.{Run}
 use Rattle.stored.specs.Refusals.{locations}
 use Rattle.routine.specs.Open.{rootOf, Runnable}
 use Rattle.machine.specs.Contexts.{plug}
-use Rattle.machine.specs.State.{exprOf, Seen, Held, blank, stack}
+use Rattle.machine.specs.State.{exprOf, Seen, takesOf, Held, blank, stack}
 use Rattle.machine.specs.Acts.{ruleNo}
 use Rattle.machine.specs.declared.state.Pending.{Pending}
 use Rattle.machine.specs.declared.state.Machine.{Machine}
@@ -34,4 +34,8 @@ pub record Moment (b : List ℕ) (s₀ s : Store) (p : Pending) (m : Machine) : 
   pub last : LastStep (rootOf b) s₀ (m .steps) (meaning b p m) s (m .rule)
   pub seen : Seen b (m .work)
   pub frames : length (p .frames) ≡ 256
+  -- The next act reads and writes one of the 256 frames: at a value the one on top, at a node the one above it. The height and the node's own places
+  -- are 256 at most together, so a node that has places has a frame. A dereference has none, but no place is pushed for it (`PushedFor`): it has
+  -- the frame of the act before, or the first of all.
+  pub room : p .height < 256 + takesOf (m .work)
   pub held : (j : ℕ) → j < p .height → Held b (getD (p .frames) j blank .place)

@@ -9,7 +9,7 @@ use mir.Syntax.{w32}
 use mir.ValLaws.{toZ-ofZ}
 use denote.Ref.{now}
 use borrow.Author.Needs.{needs}
-use Rattle.stored.specs.Layout.{kind, arg}
+use Rattle.stored.specs.Layout.{kind, arg, child2}
 use Rattle.l1.specs.Syntax.{Ty}
 use Rattle.l1.specs.Typing.{_⊢_∶_}
 use Rattle.stored.specs.Reader.{treeAt}
@@ -21,7 +21,7 @@ use Rattle.routine.specs.Open.{SizesOf, IsOpen, Runnable}
 use Rattle.routine.proofs.Standing.{may-read}
 use Rattle.machine.specs.State.{Busy}
 use Rattle.machine.specs.declared.state.Place.the-variants as p
-use Rattle.machine.proofs.NodeActs.{kids-of, not-busy, down, seeks, operand-typed, sought-by, unfolds, derefs, deref-below, came-to, gone-by, below}
+use Rattle.machine.proofs.NodeActs.{no-deref-bool, no-deref-unit, test-typed, kids-of, not-busy, down, seeks, operand-typed, typed-as, sought-by, unfolds, derefs, deref-below, came-to, gone-by, below}
 use Rattle.machine.proofs.acts.at_node.Statement.{statement}
 use Rattle.machine.proofs.acts.at_node.Tie as tie
 
@@ -140,7 +140,8 @@ at-node-spec =
     let f = c .before .before .before .before in
     let told = c .before .before .enum-told3 .given .1 in
     let gone = gone-by (c .before .first-at3 .ensures) refl (c .down .ensures) in
-    down (ok f) (lt f) (is f told) refl (lt f, child f refl (kids f told .1), child f refl (kids f told .2)) (omega arith) gone)
+    let other = no-deref-bool (operand-typed (ok f) (lt f) (is f told) (p.Test (node f)) refl refl (typed f)) in
+    down (ok f) (lt f) (is f told) refl (lt f, child f refl (kids f told .1), child f refl (kids f told .2)) (omega arith) other gone)
     (λ c.
     let f = c .before .before .before .before .before .before in
     let location = c .before .before .u32-of-u8 .ensures ∙ c .before .before .before .arg-at .ensures in
@@ -150,12 +151,14 @@ at-node-spec =
     let f = c .before .before .before .before .before in
     let told = c .before .before .before .enum-told5 .given .1 in
     let gone = gone-by (c .before .first-at5 .ensures) (ap p.First (c .before .before .second-at .ensures)) (c .down2 .ensures) in
-    down (ok f) (lt f) (is f told) refl (child f refl (kids f told .1)) (omega arith) gone)
+    let other = no-deref-unit (operand-typed (ok f) (lt f) (is f told) (p.First (child2 (bytes f) (node f))) refl refl (typed f)) in
+    down (ok f) (lt f) (is f told) refl (child f refl (kids f told .1)) (omega arith) other gone)
     (λ c.
     let f = c .before .before .before .before in
     let told = c .before .before .enum-told6 .given .1 in
     let gone = gone-by (c .before .first-at6 .ensures) refl (c .down3 .ensures) in
-    unfolds (ok f) (lt f) (is f told) refl (child f refl (kids f told .1)) gone)
+    let other = no-deref-bool (test-typed (typed-as (ok f) (lt f) (is f told) (typed f .1))) in
+    unfolds (ok f) (lt f) (is f told) refl (child f refl (kids f told .1)) other gone)
     (λ c.
     let f = c .before .before .before .before .before .before in
     let told = c .before .before .before .before .enum-told7 .given .1 in

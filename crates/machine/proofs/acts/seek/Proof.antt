@@ -11,9 +11,10 @@ use Rattle.stored.specs.Layout.{kind, arg}
 use Rattle.routine.specs.declared.Form.the-variants.{Deref}
 use Rattle.routine.specs.Forms.{formOf}
 use Rattle.routine.proofs.Standing.{may-read}
+use Rattle.machine.specs.State.{isDeref}
 use Rattle.machine.specs.Acts.{went-down, read-there}
 use Rattle.machine.specs.declared.state.Work.the-variants as w
-use Rattle.machine.proofs.NodeActs.{below, gone-under, deref-told, deref-tree, deref-below}
+use Rattle.machine.proofs.NodeActs.{below, gone-under, deref-told, no-deref-form, deref-tree, deref-below}
 use Rattle.machine.proofs.acts.seek.Statement.{statement}
 use Rattle.machine.proofs.acts.seek.Tie as tie
 
@@ -46,6 +47,13 @@ reads c =
     top
     rule
 
+goes-down : tie.Need-returns-2
+goes-down c =
+    let test = c .before .before .before in
+    let z = test .before .before .before in
+    let other = no-deref-form (z .pre .0) (z .pre .1) (ap isDeref (sym (test .before .form-at .ensures)) ∙ sym (test .is-deref .ensures) ∙ c .before .before .if1 .left) in
+    went-down other (gone-under (c .before .operand .ensures) (c .under2 .ensures))
+
 pub seek-spec : {M : Type 1} → statement M
 seek-spec =
     tie.close
@@ -60,4 +68,4 @@ seek-spec =
     (λ c κs. let z = c .before .before .before .before in (z .pre .0, z .pre .1, z .pre .3, z .pre .4))
     (λ c κs. search needs)
     reads
-    (λ c. went-down (gone-under (c .before .operand .ensures) (c .under2 .ensures))))
+    goes-down)

@@ -6,8 +6,8 @@ use lib.ListN.{length}
 use denote.Ref.{now}
 use Rattle.machine.specs.State.{takesOf}
 use Rattle.machine.specs.Lent.{framesOf, pendingOf}
-use Rattle.machine.proofs.Turns.{left}
-use Rattle.machine.proofs.Loops.{Kept, ActAt, in-store, grows-by-one, few-places, room, same-store, may-step, out-at-value, out-at-overflow, out-at-fuel, goes-on, less-left}
+use Rattle.machine.proofs.Turns.{grows-by-one, left}
+use Rattle.machine.proofs.Loops.{Kept, ActAt, in-store, frame-below, room, same-store, may-step, out-at-value, out-at-overflow, out-at-fuel, goes-on, less-left}
 use Rattle.machine.proofs.lent.go_to.Statement.{statement}
 use Rattle.machine.proofs.lent.go_to.Tie as tie
 
@@ -65,7 +65,7 @@ height-grows : tie.Need-add-height Inv-loop μ-loop
 height-grows c =
     let t = turn (good c) in
     let l = head t in
-    omega (arith, few-places (l .loop .inv .0) (start l .pre), grows-by-one (t .step .result .act), c .grows .ensures)
+    omega (arith, frame-below (l .loop .inv .0) (start l .pre) (at (tested t .before)) (parts (tested t)), grows-by-one (t .step .result .act), c .grows .ensures)
 
 loop-less : tie.Need-loop-less Inv-loop μ-loop
 loop-less c =

@@ -6,8 +6,8 @@ use mathlib.Core.Logic.{⊎-elim}
 use lib.ListN.{length}
 use denote.Ref.{now}
 use Rattle.machine.specs.State.{takesOf}
-use Rattle.machine.proofs.Turns.{left}
-use Rattle.machine.proofs.Loops.{Kept, ActAt, in-store, grows-by-one, few-places, same-store, may-step, out-at-value, out-at-overflow, out-at-fuel, goes-on, less-left}
+use Rattle.machine.proofs.Turns.{grows-by-one, left}
+use Rattle.machine.proofs.Loops.{Kept, ActAt, in-store, frame-below, same-store, may-step, out-at-value, out-at-overflow, out-at-fuel, goes-on, less-left}
 use Rattle.machine.proofs.ValueActs.{is-value}
 use Rattle.machine.proofs.run.go_on.Statement.{statement}
 use Rattle.machine.proofs.run.go_on.Tie as tie
@@ -55,7 +55,7 @@ abbrev turn : tie.Else4 Inv-loop μ-loop → tie.After-step Inv-loop μ-loop
 turn c = c .before .before .before .before .before
 
 below : (c : tie.Joined1 Inv-loop μ-loop) → c .if1 .at + 1 ≤ 256
-below c = let l = c .before .before in omega (arith, few-places (l .loop .inv) (start l .pre), parts c)
+below c = let l = c .before .before in omega (arith, frame-below (l .loop .inv) (start l .pre) (c .if1 .at) (parts c))
 
 step-requires : tie.Need-step-requires Inv-loop μ-loop
 step-requires c κs = let j = c .before .before .before in let l = j .before .before in may-step (l .loop .inv) (start l .pre) (j .if1 .at) (parts j)
