@@ -1,7 +1,7 @@
--- The parser finds a tree from its text: small numbers, no deeper than there are brackets, and with room for its nodes.
+-- The parser finds a tree from its text: small numbers, no deeper than there are levels, no more places than it may have, and with room for its nodes.
 use Prim.Native.Nat.{ℕ, zero, suc, _+_, _-_, _≤_, _<_}
 use native.Mathlib.Omega.{arith}
-use mathlib.Core.Path.{_≡_, refl}
+use mathlib.Core.Path.{_≡_, refl, _∙_}
 use mathlib.Core.Bool.{Bool, true, false}
 use mathlib.Core.List.{List, [], _∷_, _++_, append-assoc}
 use mathlib.Core.Option.{Option, some}
@@ -10,13 +10,14 @@ use lib.Dec.{eqb}
 use lib.IntN.{ℤ, pos, negsuc}
 use lib.ListN.{drop}
 use Rattle.l1.specs.Syntax.{Op, plus, geq, Expr, int, bool, _‹_#_›_, if_then_else_, _:=_, !_, skip, _⨾_, while_do′_done}
-use Rattle.l1.specs.Measures.{size, depth}
+use Rattle.l1.specs.Measures.{size, places}
 use Rattle.l1.specs.Text.{bytes, sign, decimal, text}
+use Rattle.l1.proofs.Depth.{depth, places-below-depth}
 use Rattle.text_form.specs.Digits.{digit, digitsOf, valueFrom}
 use Rattle.text_form.specs.Small.{Small}
 use Rattle.text_form.specs.Parser.{front, behind, number-of, number, leaf-of, wordLeaf, plain, minus, deref, leafOf, head-of, assignHead}
-use Rattle.text_form.specs.Parser.{headOf, wordJoint, sidesJoint, jointOf, closeOf, twoParts, Parsed, parsed, noded, leaf, branchOf, secondOf}
-use Rattle.text_form.specs.Parser.{formOf, parse}
+use Rattle.text_form.specs.Parser.{headOf, wordJoint, sidesJoint, jointOf, closeOf, twoParts, Parsed, parsed, noded, leaf, besides, branchOf}
+use Rattle.text_form.specs.Parser.{secondOf, formOf, parse}
 use Rattle.text_form.proofs.Notation.{digits-front, digits-behind, digits-decimal, zero-noted, noted, is-digit, nonzero-is, value-decimal}
 use Rattle.text_form.proofs.Numbering.{renumber}
 
@@ -104,104 +105,101 @@ module _ (cap : ℕ) where
   unfolding noded
   node-found f n e u h q = rw (lt-ltb f cap h, q)
 
-  module _ (sub : ℕ → List ℕ → Option Parsed) where
-    abbrev pub Finds : Expr → Type 0
-    Finds e = (f : ℕ) (u : List ℕ) → f + size e ≤ cap → Clear u → sub f (text e ++ u) ≡ some (parsed (renumber f e) (f + size e) u)
+  module _ (sub : ℕ → ℕ → List ℕ → Option Parsed) where
+    -- with n places
+    abbrev pub Finds : ℕ → Expr → Type 0
+    Finds n e = (f : ℕ) (u : List ℕ) → f + size e ≤ cap → Clear u → sub n f (text e ++ u) ≡ some (parsed (renumber f e) (f + size e) u)
 
-    -- what stands between the brackets
-    abbrev pub Formed : Expr → Type 0
-    Formed e = (f : ℕ) (u : List ℕ) → f + size e ≤ cap → formOf cap sub f (drop 1 (text e ++ u)) ≡ some (parsed (renumber f e) (f + size e) u)
+    module _ (k : ℕ) where
+      -- what stands between the brackets, k being the places of a part inside
+      abbrev pub Formed : Expr → Type 0
+      Formed e = (f : ℕ) (u : List ℕ) → f + size e ≤ cap → formOf cap sub k f (drop 1 (text e ++ u)) ≡ some (parsed (renumber f e) (f + size e) u)
 
-    module _ (e₁ e₂ : Expr) (p₁ : Finds e₁) (p₂ : Finds e₂) where
-      pub op-formed : (o : Op) (i : ℕ) → Formed (e₁ ‹ o # i › e₂)
-      unfolding text formOf secondOf jointOf sidesJoint wordJoint behind closeOf twoParts
-      op-formed plus i f u h =
-          let v = text e₂ ++ 41 ∷ u in
-          rw (group (text e₁) (sign plus) (text e₂) (bytes ")") u, no-head e₁ (sign plus ++ v), p₁ f (sign plus ++ v) (omega arith) refl, p₂ (f + size e₁) (41 ∷ u) (omega arith) refl)
-          (node-found (f + size e₁ + size e₂) _ _ u (omega arith) (omega arith))
-      op-formed geq i f u h =
-          let v = text e₂ ++ 41 ∷ u in
-          rw (group (text e₁) (sign geq) (text e₂) (bytes ")") u, no-head e₁ (sign geq ++ v), p₁ f (sign geq ++ v) (omega arith) refl, p₂ (f + size e₁) (41 ∷ u) (omega arith) refl)
-          (node-found (f + size e₁ + size e₂) _ _ u (omega arith) (omega arith))
+      module _ (e₁ e₂ : Expr) (p₁ : Finds k e₁) where
+        pub op-formed : Finds k e₂ → (o : Op) (i : ℕ) → Formed (e₁ ‹ o # i › e₂)
+        unfolding text formOf secondOf besides jointOf sidesJoint wordJoint behind closeOf twoParts
+        op-formed p₂ plus i f u h =
+            let v = text e₂ ++ 41 ∷ u in
+            rw (group (text e₁) (sign plus) (text e₂) (bytes ")") u, no-head e₁ (sign plus ++ v), p₁ f (sign plus ++ v) (omega arith) refl, p₂ (f + size e₁) (41 ∷ u) (omega arith) refl)
+            (node-found (f + size e₁ + size e₂) _ _ u (omega arith) (omega arith))
+        op-formed p₂ geq i f u h =
+            let v = text e₂ ++ 41 ∷ u in
+            rw (group (text e₁) (sign geq) (text e₂) (bytes ")") u, no-head e₁ (sign geq ++ v), p₁ f (sign geq ++ v) (omega arith) refl, p₂ (f + size e₁) (41 ∷ u) (omega arith) refl)
+            (node-found (f + size e₁ + size e₂) _ _ u (omega arith) (omega arith))
 
-      pub seq-formed : Formed (e₁ ⨾ e₂)
-      unfolding text formOf secondOf jointOf sidesJoint wordJoint behind closeOf twoParts
-      seq-formed f u h =
-          let v = text e₂ ++ 41 ∷ u in
-          rw (group (text e₁) (bytes " ; ") (text e₂) (bytes ")") u, no-head e₁ (bytes " ; " ++ v), p₁ f (bytes " ; " ++ v) (omega arith) refl, p₂ (f + size e₁) (41 ∷ u) (omega arith) refl)
-          (node-found (f + size e₁ + size e₂) _ _ u (omega arith) (omega arith))
+        pub seq-formed : Finds (1 + k) e₂ → Formed (e₁ ⨾ e₂)
+        unfolding text formOf secondOf besides jointOf sidesJoint wordJoint behind closeOf twoParts
+        seq-formed p₂ f u h =
+            let v = text e₂ ++ 41 ∷ u in
+            rw (group (text e₁) (bytes " ; ") (text e₂) (bytes ")") u, no-head e₁ (bytes " ; " ++ v), p₁ f (bytes " ; " ++ v) (omega arith) refl, p₂ (f + size e₁) (41 ∷ u) (omega arith) refl)
+            (node-found (f + size e₁ + size e₂) _ _ u (omega arith) (omega arith))
 
-      pub while-formed : Formed (while e₁ do′ e₂ done)
-      unfolding text formOf headOf secondOf jointOf wordJoint behind closeOf twoParts
-      while-formed f u h =
-          let v = text e₂ ++ (bytes " done)" ++ u) in
-          rw (group (text e₁) (bytes " do ") (text e₂) (bytes " done)") u, p₁ f (bytes " do " ++ v) (omega arith) refl, p₂ (f + size e₁) (bytes " done)" ++ u) (omega arith) refl)
-          (node-found (f + size e₁ + size e₂) _ _ u (omega arith) (omega arith))
+        pub while-formed : Finds k e₂ → Formed (while e₁ do′ e₂ done)
+        unfolding text formOf headOf secondOf besides jointOf wordJoint behind closeOf twoParts
+        while-formed p₂ f u h =
+            let v = text e₂ ++ (bytes " done)" ++ u) in
+            rw (group (text e₁) (bytes " do ") (text e₂) (bytes " done)") u, p₁ f (bytes " do " ++ v) (omega arith) refl, p₂ (f + size e₁) (bytes " done)" ++ u) (omega arith) refl)
+            (node-found (f + size e₁ + size e₂) _ _ u (omega arith) (omega arith))
 
-      pub if-formed : (e₃ : Expr) → Finds e₃ → Formed (if e₁ then e₂ else e₃)
-      unfolding text formOf headOf secondOf branchOf jointOf wordJoint behind
-      if-formed e₃ p₃ f u h =
-          let w = bytes " else " ++ (text e₃ ++ 41 ∷ u) in
-          rw (
-            if-group (text e₁) (text e₂) (text e₃) u,
-            p₁ f (bytes " then " ++ (text e₂ ++ w)) (omega arith) refl,
-            p₂ (f + size e₁) w (omega arith) refl,
-            p₃ (f + size e₁ + size e₂) (41 ∷ u) (omega arith) refl,
-          )
-          (node-found (f + size e₁ + size e₂ + size e₃) _ _ u (omega arith) (omega arith))
+        pub if-formed : (e₃ : Expr) → Finds (1 + k) e₂ → Finds (1 + k) e₃ → Formed (if e₁ then e₂ else e₃)
+        unfolding text formOf headOf secondOf besides branchOf jointOf wordJoint behind
+        if-formed e₃ p₂ p₃ f u h =
+            let w = bytes " else " ++ (text e₃ ++ 41 ∷ u) in
+            rw (
+              if-group (text e₁) (text e₂) (text e₃) u,
+              p₁ f (bytes " then " ++ (text e₂ ++ w)) (omega arith) refl,
+              p₂ (f + size e₁) w (omega arith) refl,
+              p₃ (f + size e₁ + size e₂) (41 ∷ u) (omega arith) refl,
+            )
+            (node-found (f + size e₁ + size e₂ + size e₃) _ _ u (omega arith) (omega arith))
 
-    assign-formed : (l : ℕ) (e : Expr) → l ≤ 255 → Finds e → Formed (l := e)
-    unfolding text formOf headOf assignHead jointOf wordJoint behind
-    assign-formed l e s p f u h =
-        rw (group (decimal l) (bytes " := ") (text e) (bytes ")") u, number-found 255 l (bytes " := " ++ (text e ++ 41 ∷ u)) s refl, p f (41 ∷ u) (omega arith) refl)
-        (node-found (f + size e) _ _ u (omega arith) (omega arith))
+      assign-formed : (l : ℕ) (e : Expr) → l ≤ 255 → Finds k e → Formed (l := e)
+      unfolding text formOf headOf assignHead jointOf wordJoint behind
+      assign-formed l e s p f u h =
+          rw (group (decimal l) (bytes " := ") (text e) (bytes ")") u, number-found 255 l (bytes " := " ++ (text e ++ 41 ∷ u)) s refl, p f (41 ∷ u) (omega arith) refl)
+          (node-found (f + size e) _ _ u (omega arith) (omega arith))
 
 -- ---- all of them
 
-pub deep : (e : Expr) → 0 < depth e
-deep (int n) = omega arith
-deep (bool b) = omega arith
-deep (e₁ ‹ o # i › e₂) = omega arith
-deep (if e₁ then e₂ else e₃) = omega arith
-deep (l := e) = omega arith
-deep (! l) = omega arith
-deep skip = omega arith
-deep (e₁ ⨾ e₂) = omega arith
-deep (while e₁ do′ e₂ done) = omega arith
-
-leaf-parsed : (e : Expr) (cap k f : ℕ) (u v : List ℕ) → leafOf v ≡ some (leaf-of e u) → eqb (front v) 40 ≡ false → f + 1 ≤ cap
-    → parse cap k f v ≡ some (parsed e (f + 1) u)
+leaf-parsed : (e : Expr) (cap levels k f : ℕ) (u v : List ℕ) → leafOf v ≡ some (leaf-of e u) → eqb (front v) 40 ≡ false → f + 1 ≤ cap
+    → parse cap levels k f v ≡ some (parsed e (f + 1) u)
 unfolding parse leaf
-leaf-parsed e cap zero f u v q n h = rw (n, q) (node-found cap f (f + 1) e u (omega arith) refl)
-leaf-parsed e cap (suc k) f u v q n h = rw (n, q) (node-found cap f (f + 1) e u (omega arith) refl)
+leaf-parsed e cap zero k f u v q n h = rw (n, q) (node-found cap f (f + 1) e u (omega arith) refl)
+leaf-parsed e cap (suc levels) zero f u v q n h = rw (n, q) (node-found cap f (f + 1) e u (omega arith) refl)
+leaf-parsed e cap (suc levels) (suc k) f u v q n h = rw (n, q) (node-found cap f (f + 1) e u (omega arith) refl)
 
-pub parse-finds : (e : Expr) (cap k f : ℕ) (u : List ℕ) → Small e → depth e ≤ k + 1 → f + size e ≤ cap → Clear u
-    → parse cap k f (text e ++ u) ≡ some (parsed (renumber f e) (f + size e) u)
-unfolding parse text
-parse-finds (int (pos n)) cap k f u s d h c =
-    leaf-parsed (int (pos n)) cap k f u _ (int-found u c (pos n) s) (unlike n u 40 refl) h
-parse-finds (int (negsuc n)) cap k f u s d h c = leaf-parsed (int (negsuc n)) cap k f u _ (int-found u c (negsuc n) s) refl h
-parse-finds (bool true) cap k f u s d h c = leaf-parsed (bool true) cap k f u _ (truth-found true u) refl h
-parse-finds (bool false) cap k f u s d h c = leaf-parsed (bool false) cap k f u _ (truth-found false u) refl h
-parse-finds (! l) cap k f u s d h c = leaf-parsed (! l) cap k f u _ (deref-found u c l s) refl h
-parse-finds skip cap k f u s d h c = leaf-parsed skip cap k f u _ (skip-found u) refl h
-parse-finds (e₁ ‹ o # i › e₂) cap zero f u s d h c = absurd (omega (arith, deep e₁))
-parse-finds (e₁ ‹ o # i › e₂) cap (suc k) f u s d h c =
-    op-formed cap (parse cap k) e₁ e₂ (λ g v. parse-finds e₁ cap k g v (s .0) (omega arith))
-    (λ g v. parse-finds e₂ cap k g v (s .1) (omega arith)) o i f u h
-parse-finds (if e₁ then e₂ else e₃) cap zero f u s d h c = absurd (omega (arith, deep e₁))
-parse-finds (if e₁ then e₂ else e₃) cap (suc k) f u s d h c =
-    if-formed cap (parse cap k) e₁ e₂ (λ g v. parse-finds e₁ cap k g v (s .0) (omega arith))
-    (λ g v. parse-finds e₂ cap k g v (s .1) (omega arith)) e₃
-    (λ g v. parse-finds e₃ cap k g v (s .2) (omega arith)) f u h
-parse-finds (l := e) cap zero f u s d h c = absurd (omega (arith, deep e))
-parse-finds (l := e) cap (suc k) f u s d h c =
-    assign-formed cap (parse cap k) l e (s .0) (λ g v. parse-finds e cap k g v (s .1) (omega arith)) f u h
-parse-finds (e₁ ⨾ e₂) cap zero f u s d h c = absurd (omega (arith, deep e₁))
-parse-finds (e₁ ⨾ e₂) cap (suc k) f u s d h c =
-    seq-formed cap (parse cap k) e₁ e₂ (λ g v. parse-finds e₁ cap k g v (s .0) (omega arith))
-    (λ g v. parse-finds e₂ cap k g v (s .1) (omega arith)) f u h
-parse-finds (while e₁ do′ e₂ done) cap zero f u s d h c = absurd (omega (arith, deep e₁))
-parse-finds (while e₁ do′ e₂ done) cap (suc k) f u s d h c =
-    while-formed cap (parse cap k) e₁ e₂ (λ g v. parse-finds e₁ cap k g v (s .0) (omega arith))
-    (λ g v. parse-finds e₂ cap k g v (s .1) (omega arith)) f u h
+bracketed : (cap levels k f : ℕ) (u : List ℕ) → 0 < levels → 0 < k → parse cap levels k f (40 ∷ u) ≡ formOf cap (parse cap (levels - 1)) (k - 1) f u
+unfolding parse
+bracketed cap zero k f u h l = absurd (omega arith)
+bracketed cap (suc levels) zero f u h l = absurd (omega arith)
+bracketed cap (suc levels) (suc k) f u h l = let p : suc levels - 1 ≡ levels = omega arith in let q : suc k - 1 ≡ k = omega arith in rw (p, q)
+
+pub parse-finds : (e : Expr) (cap levels k f : ℕ) (u : List ℕ) → Small e → depth e ≤ levels + 1 → places e ≤ k → f + size e ≤ cap → Clear u
+    → parse cap levels k f (text e ++ u) ≡ some (parsed (renumber f e) (f + size e) u)
+unfolding text
+parse-finds (int (pos n)) cap j k f u s d p h c = leaf-parsed (int (pos n)) cap j k f u _ (int-found u c (pos n) s) (unlike n u 40 refl) h
+parse-finds (int (negsuc n)) cap j k f u s d p h c = leaf-parsed (int (negsuc n)) cap j k f u _ (int-found u c (negsuc n) s) refl h
+parse-finds (bool true) cap j k f u s d p h c = leaf-parsed (bool true) cap j k f u _ (truth-found true u) refl h
+parse-finds (bool false) cap j k f u s d p h c = leaf-parsed (bool false) cap j k f u _ (truth-found false u) refl h
+parse-finds (! l) cap j k f u s d p h c = leaf-parsed (! l) cap j k f u _ (deref-found u c l s) refl h
+parse-finds skip cap j k f u s d p h c = leaf-parsed skip cap j k f u _ (skip-found u) refl h
+parse-finds (e₁ ‹ o # i › e₂) cap j k f u s d p h c =
+    bracketed cap j k f _ (omega (arith, places-below-depth e₁)) (omega arith)
+    ∙ op-formed cap (parse cap (j - 1)) (k - 1) e₁ e₂ (λ g v. parse-finds e₁ cap (j - 1) (k - 1) g v (s .0) (omega arith) (omega arith))
+    (λ g v. parse-finds e₂ cap (j - 1) (k - 1) g v (s .1) (omega arith) (omega arith)) o i f u h
+parse-finds (if e₁ then e₂ else e₃) cap j k f u s d p h c =
+    bracketed cap j k f _ (omega (arith, places-below-depth e₁)) (omega arith)
+    ∙ if-formed cap (parse cap (j - 1)) (k - 1) e₁ e₂ (λ g v. parse-finds e₁ cap (j - 1) (k - 1) g v (s .0) (omega arith) (omega arith)) e₃
+    (λ g v. parse-finds e₂ cap (j - 1) (1 + (k - 1)) g v (s .1) (omega arith) (omega arith))
+    (λ g v. parse-finds e₃ cap (j - 1) (1 + (k - 1)) g v (s .2) (omega arith) (omega arith)) f u h
+parse-finds (l := e) cap j k f u s d p h c =
+    bracketed cap j k f _ (omega (arith, places-below-depth e)) (omega arith)
+    ∙ assign-formed cap (parse cap (j - 1)) (k - 1) l e (s .0) (λ g v. parse-finds e cap (j - 1) (k - 1) g v (s .1) (omega arith) (omega arith)) f u h
+parse-finds (e₁ ⨾ e₂) cap j k f u s d p h c =
+    bracketed cap j k f _ (omega (arith, places-below-depth e₁)) (omega arith)
+    ∙ seq-formed cap (parse cap (j - 1)) (k - 1) e₁ e₂ (λ g v. parse-finds e₁ cap (j - 1) (k - 1) g v (s .0) (omega arith) (omega arith))
+    (λ g v. parse-finds e₂ cap (j - 1) (1 + (k - 1)) g v (s .1) (omega arith) (omega arith)) f u h
+parse-finds (while e₁ do′ e₂ done) cap j k f u s d p h c =
+    bracketed cap j k f _ (omega (arith, places-below-depth e₁)) (omega arith)
+    ∙ while-formed cap (parse cap (j - 1)) (k - 1) e₁ e₂ (λ g v. parse-finds e₁ cap (j - 1) (k - 1) g v (s .0) (omega arith) (omega arith))
+    (λ g v. parse-finds e₂ cap (j - 1) (k - 1) g v (s .1) (omega arith) (omega arith)) f u h

@@ -13,5 +13,6 @@ pub mod Parsing  -- what the parser answers
 pub mod OneTree  -- a text is that of one tree, but for the numbers of its operators
 pub mod LongestText  -- less than 14 bytes for each node
 pub mod OneReading  -- one answer of reading
+pub mod StillRead  -- no text that was read before request 2 is refused now
 pub mod RoundTrip  -- reading and writing, both ways round
 pub mod SmallNumbers  -- no large number: numbers that a routine can hold

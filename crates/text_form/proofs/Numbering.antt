@@ -1,4 +1,4 @@
--- Each operator numbered by its own node: `renumber`. The trees that a routine can hold are those with small numbers, within 01's limits, that it leaves as
+-- Each operator numbered by its own node: `renumber`. The trees that a routine can hold are those with small numbers, within the limits, that it leaves as
 -- they are.
 use Prim.Native.Nat.{ℕ, _+_, _≤_}
 use native.Mathlib.Omega.{arith}
@@ -10,7 +10,7 @@ use lib.IntN.{ℤ, pos, negsuc}
 use lib.ListN.{length, length-append}
 use Rattle.l1.specs.Syntax.{Expr, int, bool, _‹_#_›_, if_then_else_, _:=_, !_, skip, _⨾_, while_do′_done}
 use Rattle.l1.specs.Range.{InRange}
-use Rattle.l1.specs.Measures.{size, depth}
+use Rattle.l1.specs.Measures.{size, places}
 use Rattle.l1.specs.Refused.{nodes, Nth, nth-zero, nth-suc}
 use Rattle.l1.proofs.Nodes.{nth-right, nth-append, nodes-length}
 use Rattle.l1.proofs.Range.{in-range-mag, mag-in-range}
@@ -129,13 +129,13 @@ all-ok skip f s q = one-ok f skip tt
 all-ok (e₁ ⨾ e₂) f s q = two-ok e₁ e₂ (e₁ ⨾ e₂) f (all-ok e₁ f (s .0) (cc)) (all-ok e₂ (f + size e₁) (s .1) (cc)) tt
 all-ok (while e₁ do′ e₂ done) f s q = two-ok e₁ e₂ (while e₁ do′ e₂ done) f (all-ok e₁ f (s .0) (cc)) (all-ok e₂ (f + size e₁) (s .1) (cc)) tt
 
-pub held-storable : {m : ℕ} (e : Expr) → m ≤ 64 → size e ≤ 4096 → depth e ≤ 256 → Held 0 e → Storable m e
-held-storable e l n d h =
+pub held-storable : {m : ℕ} (e : Expr) → m ≤ 64 → size e ≤ 4096 → places e ≤ 256 → Held 0 e → Storable m e
+held-storable e l n p h =
     let a = all-ok e 0 (h .small) (h .own) in
     record {
       few-locations = l;
       few-nodes = n;
-      shallow = d;
+      few-places = p;
       integers = λ i x k. a .each i (int x) k;
       read-locations = λ i x k. a .each i (! x) k;
       written-locations = λ i x c k. a .each i (x := c) k;

@@ -46,13 +46,13 @@ reading-single m t room = (
 
 pub storable-passes : {m : ℕ} {e : Expr} (t : List ℕ) (room : ℕ) → Storable m e → t ≡ text e → 6 + 8 * size e ≤ room → Passes (reading m t room)
 storable-passes {m} {e} t room s q h =
-    let l = s .few-locations in let n = s .few-nodes in let d = s .shallow in let small = storable-held s .small in
+    let l = s .few-locations in let n = s .few-nodes in let p = s .few-places in let small = storable-held s .small in
     passes-more (when-silent (λ x. omega arith))
     (passes-more (at-silent (λ i x. not-form x (record { expr = e; shown = q })))
     (passes-more (at-silent (λ i (e′, q′, x). no-large-integer (agree (sym q ∙ q′) .small-too small) (x .is)))
     (passes-more (at-silent (λ i (e′, q′, x). no-large-location (agree (sym q ∙ q′) .small-too small) (x .is)))
     (passes-more (when-silent (λ (e′, q′, x). let a = agree {e = e} {e′ = e′} (sym q ∙ q′) .same-size in omega arith))
-    (passes-more (when-silent (λ (e′, q′, x). let a = agree {e = e} {e′ = e′} (sym q ∙ q′) .same-depth in omega arith))
+    (passes-more (when-silent (λ (e′, q′, x). let a = agree {e = e} {e′ = e′} (sym q ∙ q′) .same-places in omega arith))
     (passes-more (at-silent (λ i (e′, q′, x). let a = agree {e = e} {e′ = e′} (sym q ∙ q′) .same-size in omega (arith, x .0, x .1)))
     passes-nothing))))))
 

@@ -1,5 +1,5 @@
 -- A text is that of one tree, but for the numbers of its operators: a reader that bounds no number finds every tree from its text.
--- So trees with the same text agree in their nodes, their depth and their large numbers.
+-- So trees with the same text agree in their nodes, their places and their large numbers.
 use Prim.Native.Nat.{ℕ, zero, suc, _+_, _-_, _≤_, _<_}
 use native.Mathlib.Omega.{arith}
 use mathlib.Core.Path.{_≡_, refl, sym, _∙_, ap}
@@ -10,9 +10,9 @@ use lib.Dec.{eqb}
 use lib.IntN.{ℤ, pos, negsuc}
 use lib.ListN.{drop}
 use Rattle.l1.specs.Syntax.{Op, Loc, Expr, int, bool, _‹_#_›_, if_then_else_, _:=_, !_, skip, _⨾_, while_do′_done}
-use Rattle.l1.specs.Measures.{size, depth}
+use Rattle.l1.specs.Measures.{size, places}
 use Rattle.l1.specs.Text.{bytes, sign, decimal, text}
-use Rattle.l1.proofs.Depth.{depth-within-size}
+use Rattle.l1.proofs.Depth.{depth, places-below-depth}
 use Rattle.stored.specs.Stored.{Storable}
 use Rattle.text_form.specs.Digits.{digit, digitsOf, valueFrom}
 use Rattle.text_form.specs.Parser.{on, front, number, Parsed, parsed, noded, leaf, formOf}
@@ -22,7 +22,7 @@ use Rattle.text_form.specs.Numbers.{while-body}
 use Rattle.text_form.specs.Numbers.{LargeInteger, large-integer, LargeLocation, large-read, large-written}
 use Rattle.text_form.proofs.Numbering.{renumber, storable-held, small-in-range}
 use Rattle.text_form.proofs.Found.{Clear, number-front, unlike, value-found, number-found, begins, group, node-found, truth-found, skip-found}
-use Rattle.text_form.proofs.Found.{op-formed, seq-formed, while-formed, if-formed, deep}
+use Rattle.text_form.proofs.Found.{op-formed, seq-formed, while-formed, if-formed}
 
 -- the number in front, whatever it is, and what is done with it
 abbrev any : {B : Type 0} → List ℕ → (ℕ → List ℕ → Option B) → Option B
@@ -43,13 +43,13 @@ module _ (cap : ℕ) where
   assignAny sub f l v = on (sub f (drop 4 v)) (λ p. noded cap (p .node) (l := p .expr) (drop 1 (p .left)))
 
   unfoldable formAny : (ℕ → List ℕ → Option Parsed) → ℕ → List ℕ → Option Parsed
-  formAny sub f u = cond (eqb (front u) 108) (any (drop 1 u) (assignAny sub f)) (formOf cap sub f u)
+  formAny sub f u = cond (eqb (front u) 108) (any (drop 1 u) (assignAny sub f)) (formOf cap (λ _. sub) 0 f u)
 
   unfoldable parseAny : ℕ → ℕ → List ℕ → Option Parsed
   parseAny zero f u = leafAny f u
   parseAny (suc k) f u = cond (eqb (front u) 40) (formAny (parseAny k) f (drop 1 u)) (leafAny f u)
 
-  -- a leaf is read at any depth
+  -- a leaf is read at any level
   leaf-any : (k f : ℕ) (u : List ℕ) → eqb (front u) 40 ≡ false → parseAny k f u ≡ leafAny f u
   unfolding parseAny
   leaf-any zero f u h = refl
@@ -61,7 +61,7 @@ module _ (cap : ℕ) where
   bracketed (suc k) f u h = let q : suc k - 1 ≡ k = omega arith in rw q
 
   -- what begins with an expression is no assignment
-  form-any : (sub : ℕ → List ℕ → Option Parsed) (f : ℕ) (e : Expr) (s y t u : List ℕ) → formAny sub f (text e ++ s ++ y ++ t ++ u) ≡ formOf cap sub f (text e ++ s ++ y ++ t ++ u)
+  form-any : (sub : ℕ → List ℕ → Option Parsed) (f : ℕ) (e : Expr) (s y t u : List ℕ) → formAny sub f (text e ++ s ++ y ++ t ++ u) ≡ formOf cap (λ _. sub) 0 f (text e ++ s ++ y ++ t ++ u)
   unfolding formAny
   form-any sub f e s y t u = rw (group (text e) s y t u, begins e (s ++ (y ++ (t ++ u))) .2)
 
@@ -81,13 +81,13 @@ module _ (cap : ℕ) where
   any-finds (bool false) k f u d h c = leaf-any k f (text (bool false) ++ u) refl ∙ rw (truth-found false u) (node-found cap f _ _ u (omega arith) refl)
   any-finds skip k f u d h c = leaf-any k f (text skip ++ u) refl ∙ rw (skip-found u) (node-found cap f _ _ u (omega arith) refl)
   any-finds (e₁ ‹ o # i › e₂) k f u d h c =
-      bracketed k f _ (omega (arith, deep e₁)) ∙ form-any (parseAny (k - 1)) f e₁ (sign o) (text e₂) (bytes ")") u
-      ∙ op-formed cap (parseAny (k - 1)) e₁ e₂ (λ g v. any-finds e₁ (k - 1) g v (omega arith)) (λ g v. any-finds e₂ (k - 1) g v (omega arith)) o i f u h
+      bracketed k f _ (omega (arith, places-below-depth e₁)) ∙ form-any (parseAny (k - 1)) f e₁ (sign o) (text e₂) (bytes ")") u
+      ∙ op-formed cap (λ _. parseAny (k - 1)) 0 e₁ e₂ (λ g v. any-finds e₁ (k - 1) g v (omega arith)) (λ g v. any-finds e₂ (k - 1) g v (omega arith)) o i f u h
   any-finds (if e₁ then e₂ else e₃) k f u d h c =
-      bracketed k f _ (omega (arith, deep e₁))
-      ∙ if-formed cap (parseAny (k - 1)) e₁ e₂ (λ g v. any-finds e₁ (k - 1) g v (omega arith)) (λ g v. any-finds e₂ (k - 1) g v (omega arith)) e₃ (λ g v. any-finds e₃ (k - 1) g v (omega arith)) f u h
+      bracketed k f _ (omega (arith, places-below-depth e₁))
+      ∙ if-formed cap (λ _. parseAny (k - 1)) 0 e₁ e₂ (λ g v. any-finds e₁ (k - 1) g v (omega arith)) e₃ (λ g v. any-finds e₂ (k - 1) g v (omega arith)) (λ g v. any-finds e₃ (k - 1) g v (omega arith)) f u h
   any-finds (l := e) k f u d h c =
-      bracketed k f _ (omega (arith, deep e))
+      bracketed k f _ (omega (arith, places-below-depth e))
       ∙ rw (
         group (decimal l) (bytes " := ") (text e) (bytes ")") u,
         any-found l (bytes " := " ++ (text e ++ 41 ∷ u)) (assignAny (parseAny (k - 1)) f) refl,
@@ -95,18 +95,18 @@ module _ (cap : ℕ) where
       )
       (node-found cap (f + size e) _ _ u (omega arith) (omega arith))
   any-finds (e₁ ⨾ e₂) k f u d h c =
-      bracketed k f _ (omega (arith, deep e₁)) ∙ form-any (parseAny (k - 1)) f e₁ (bytes " ; ") (text e₂) (bytes ")") u
-      ∙ seq-formed cap (parseAny (k - 1)) e₁ e₂ (λ g v. any-finds e₁ (k - 1) g v (omega arith)) (λ g v. any-finds e₂ (k - 1) g v (omega arith)) f u h
+      bracketed k f _ (omega (arith, places-below-depth e₁)) ∙ form-any (parseAny (k - 1)) f e₁ (bytes " ; ") (text e₂) (bytes ")") u
+      ∙ seq-formed cap (λ _. parseAny (k - 1)) 0 e₁ e₂ (λ g v. any-finds e₁ (k - 1) g v (omega arith)) (λ g v. any-finds e₂ (k - 1) g v (omega arith)) f u h
   any-finds (while e₁ do′ e₂ done) k f u d h c =
-      bracketed k f _ (omega (arith, deep e₁))
-      ∙ while-formed cap (parseAny (k - 1)) e₁ e₂ (λ g v. any-finds e₁ (k - 1) g v (omega arith)) (λ g v. any-finds e₂ (k - 1) g v (omega arith)) f u h
+      bracketed k f _ (omega (arith, places-below-depth e₁))
+      ∙ while-formed cap (λ _. parseAny (k - 1)) 0 e₁ e₂ (λ g v. any-finds e₁ (k - 1) g v (omega arith)) (λ g v. any-finds e₂ (k - 1) g v (omega arith)) f u h
 
 pub one-shape : (e e′ : Expr) → text e ≡ text e′ → renumber 0 e ≡ renumber 0 e′
 one-shape e e′ q =
-    let k = size e + size e′ in
-    let p = any-finds k e k 0 [] (omega (arith, depth-within-size e)) (omega arith) refl in
-    let p′ = any-finds k e′ k 0 [] (omega (arith, depth-within-size e′)) (omega arith) refl in
-    let r : parseAny k k 0 (text e ++ []) ≡ parseAny k k 0 (text e′ ++ []) = rw q in
+    let cap = size e + size e′ in let k = depth e + depth e′ in
+    let p = any-finds cap e k 0 [] (omega arith) (omega arith) refl in
+    let p′ = any-finds cap e′ k 0 [] (omega arith) (omega arith) refl in
+    let r : parseAny cap k 0 (text e ++ []) ≡ parseAny cap k 0 (text e′ ++ []) = rw q in
     ap (λ (x : Parsed). x .expr) (Option·some-injective _ _ (sym p ∙ r ∙ p′))
 
 -- the text determines the tree that is read
@@ -141,7 +141,7 @@ renumbered (e₁ ⨾ e₂) f = let (p, q) = renumbered e₁ f in let (r, s) = re
 renumbered (while e₁ do′ e₂ done) f = let (p, q) = renumbered e₁ f in let (r, s) = renumbered e₂ (f + size e₁) in (whiles p r, whiles q s)
 
 abbrev Same : Expr → Expr → Type 0
-Same e e′ = (text e ≡ text e′) × (size e ≡ size e′) × (depth e ≡ depth e′) × (Small e → Small e′)
+Same e e′ = (text e ≡ text e′) × (size e ≡ size e′) × (places e ≡ places e′) × (Small e → Small e′)
 
 told : {e e′ : Expr} → Alike e e′ → Same e e′
 unfolding text
@@ -191,7 +191,7 @@ location-too {e′ = e′} a (large-written {l} {d} {i} p h) = go (there p a)
 
 pub record Agree (e e′ : Expr) : Type 0 where
   pub same-size : size e ≡ size e′
-  pub same-depth : depth e ≡ depth e′
+  pub same-places : places e ≡ places e′
   pub small-too : Small e → Small e′
   pub integers : (i : ℕ) → LargeInteger e i → LargeInteger e′ i
   pub locations : (i : ℕ) → LargeLocation e i → LargeLocation e′ i
@@ -202,7 +202,7 @@ agree {e} {e′} q =
     let s = told a in let t = told b in
     record {
       same-size = omega arith;
-      same-depth = omega arith;
+      same-places = omega arith;
       small-too = λ h. t .3 (s .3 h);
       integers = λ i h. integer-too b (integer-too a h);
       locations = λ i h. location-too b (location-too a h);

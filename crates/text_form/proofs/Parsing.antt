@@ -1,5 +1,5 @@
--- What the parser answers: a tree whose text stands in front of what is left, within 01's limits, each operator numbered by its own node.
-use Prim.Native.Nat.{ℕ, zero, suc, _+_, _-_, _*_, _≤_, _<_, max}
+-- What the parser answers: a tree whose text stands in front of what is left, within its limits, each operator numbered by its own node.
+use Prim.Native.Nat.{ℕ, zero, suc, _+_, _-_, _*_, _≤_, _<_}
 use native.Mathlib.Omega.{arith}
 use mathlib.Core.Path.{_≡_, refl, sym, _∙_, ap}
 use mathlib.Core.Bool.{Bool, true, false, cond}
@@ -10,14 +10,15 @@ use lib.Dec.{ltb, eqb}
 use lib.IntN.{pos, negsuc}
 use lib.ListN.{length, length-append, getD, drop}
 use Rattle.l1.specs.Syntax.{Op, plus, geq, Loc, Expr, int, bool, _‹_#_›_, if_then_else_, _:=_, !_, skip, _⨾_, while_do′_done}
-use Rattle.l1.specs.Measures.{size, depth}
+use Rattle.l1.specs.Measures.{size, places}
 use Rattle.l1.specs.Text.{bytes, sign, decimal, text}
+use Rattle.l1.proofs.Depth.{depth-by-places}
 use Rattle.stored.specs.Stored.{Storable}
 use Rattle.text_form.specs.Digits.{nonzero, digitsOf, beyond, valueFrom}
 use Rattle.text_form.specs.Small.{Small, Unreadable}
 use Rattle.text_form.specs.Parser.{on, front, behind, Number, number, Leaf, wordLeaf, plain, minus, deref, leafOf, Head, head-of, assignHead}
 use Rattle.text_form.specs.Parser.{headOf, Joint, joint-of, wordJoint, sidesJoint, jointOf, closeOf, twoParts, Parsed, parsed, noded, leaf}
-use Rattle.text_form.specs.Parser.{branchOf, secondOf, formOf, parse}
+use Rattle.text_form.specs.Parser.{besides, branchOf, secondOf, formOf, parse}
 use Rattle.text_form.proofs.Notation.{is-digit, nonzero-is, parted, zero-noted, noted, from-digits}
 use Rattle.text_form.proofs.Numbering.{renumber, Held, held-storable}
 use Rattle.text_form.proofs.Found.{parse-finds}
@@ -84,7 +85,7 @@ number-gives bound u =
 
 -- e has no parts
 abbrev Bare : Expr → Type 0
-Bare e = (f : ℕ) → (size e ≡ 1) × (depth e ≡ 1) × (renumber f e ≡ e)
+Bare e = (f : ℕ) → (size e ≡ 1) × (places e ≡ 0) × (renumber f e ≡ e)
 
 record Alone (u : List ℕ) (l : Leaf) : Type 0 where
   reads : u ≡ text (l .expr) ++ l .left
@@ -123,10 +124,10 @@ leaf-gives u =
 
 -- ---- expressions with parts
 
--- the tree that is read, at node f and with k brackets at most
+-- the tree that is read, at node f and with k places at most
 pub record Sound (cap k f : ℕ) (u : List ℕ) (p : Parsed) : Type 0 where
   pub reads : u ≡ text (p .expr) ++ p .left
-  pub measures : (p .node ≡ f + size (p .expr)) × (p .node ≤ cap) × (depth (p .expr) ≤ k + 1)
+  pub measures : (p .node ≡ f + size (p .expr)) × (p .node ≤ cap) × (places (p .expr) ≤ k)
   pub held : Held f (p .expr)
 
 -- behind "("
@@ -149,24 +150,36 @@ head-gives u =
     this (by-assign {v = v} (m .bounded) (assigned (n .value) u (n .left) v (in-front 108 u (omega arith) t) (m .reads) q)))))
     (λ _. this by-side)))
 
--- a form of two parts, between the words a, w and z
-record Form (a w z : List ℕ) (make : ℕ → Expr → Expr → Expr) : Type 0 where
+-- a form of two parts, of this kind, between the words a, w and z
+record Form (kind : ℕ) (a w z : List ℕ) (make : ℕ → Expr → Expr → Expr) : Type 0 where
   is : (i : ℕ) (e₁ e₂ : Expr)
       → (text (make i e₁ e₂) ≡ a ++ text e₁ ++ w ++ text e₂ ++ z) × (size (make i e₁ e₂) ≡ 1 + size e₁ + size e₂)
-      × (depth (make i e₁ e₂) ≡ 1 + max (depth e₁) (depth e₂))
+  few : (k i : ℕ) (e₁ e₂ : Expr) → places e₁ ≤ k → places e₂ ≤ besides k kind → places (make i e₁ e₂) ≤ suc k
   holds : (i f : ℕ) (e₁ e₂ : Expr) → i ≡ f + size e₁ + size e₂ → Held f e₁ → Held (f + size e₁) e₂ → Held f (make i e₁ e₂)
 
-op-form : (o : Op) → Form (bytes "(") (sign o) (bytes ")") (λ i e₁ e₂. e₁ ‹ o # i › e₂)
+op-form : (o : Op) (kind : ℕ) → ((k : ℕ) → besides k kind ≡ k) → Form kind (bytes "(") (sign o) (bytes ")") (λ i e₁ e₂. e₁ ‹ o # i › e₂)
 unfolding text
-op-form o = record { is = λ i e₁ e₂. (refl, refl, refl); holds = λ i f e₁ e₂ h p q. record { small = (p .small, q .small); own = rw (p .own, q .own, h) } }
+op-form o kind b = record {
+  is = λ i e₁ e₂. (refl, refl);
+  few = λ k i e₁ e₂ p q. omega (arith, b k);
+  holds = λ i f e₁ e₂ h p q. record { small = (p .small, q .small); own = rw (p .own, q .own, h) };
+}
 
-seq-form : Form (bytes "(") (bytes " ; ") (bytes ")") (λ i e₁ e₂. e₁ ⨾ e₂)
-unfolding text
-seq-form = record { is = λ i e₁ e₂. (refl, refl, refl); holds = λ i f e₁ e₂ h p q. record { small = (p .small, q .small); own = rw (p .own, q .own) } }
+seq-form : Form 8 (bytes "(") (bytes " ; ") (bytes ")") (λ i e₁ e₂. e₁ ⨾ e₂)
+unfolding text besides
+seq-form = record {
+  is = λ i e₁ e₂. (refl, refl);
+  few = λ k i e₁ e₂ p q. omega arith;
+  holds = λ i f e₁ e₂ h p q. record { small = (p .small, q .small); own = rw (p .own, q .own) };
+}
 
-while-form : Form (bytes "(while ") (bytes " do ") (bytes " done)") (λ i e₁ e₂. while e₁ do′ e₂ done)
-unfolding text
-while-form = record { is = λ i e₁ e₂. (refl, refl, refl); holds = λ i f e₁ e₂ h p q. record { small = (p .small, q .small); own = rw (p .own, q .own) } }
+while-form : Form 9 (bytes "(while ") (bytes " do ") (bytes " done)") (λ i e₁ e₂. while e₁ do′ e₂ done)
+unfolding text besides
+while-form = record {
+  is = λ i e₁ e₂. (refl, refl);
+  few = λ k i e₁ e₂ p q. omega arith;
+  holds = λ i f e₁ e₂ h p q. record { small = (p .small, q .small); own = rw (p .own, q .own) };
+}
 
 assign-group : (x y v : List ℕ) → bytes "(l" ++ (x ++ bytes " := " ++ (y ++ 41 ∷ v)) ≡ bytes "(" ++ (bytes "l" ++ x) ++ bytes " := " ++ y ++ bytes ")" ++ v
 assign-group x y v = simp append-assoc
@@ -185,14 +198,15 @@ joint-gives {P} w k u h go = ends (behind-gives w u)
     ends nothing = nothing
     ends (this {a = v} q) = go v q
 
-module _ (cap k : ℕ) (sub : ℕ → List ℕ → Option Parsed) (sound : (f : ℕ) (u : List ℕ) → Gives (Sound cap k f u) (sub f u)) where
+module _ (cap k : ℕ) (sub : ℕ → ℕ → List ℕ → Option Parsed) (sound : (n f : ℕ) (u : List ℕ) → Gives (Sound cap n f u) (sub n f u)) where
   -- the first part p is read, and the second stands in v
   module _ (f : ℕ) (u v : List ℕ) (p : Parsed) (s : Sound cap k f u p) where
-    module _ {a w z : List ℕ} {make : ℕ → Expr → Expr → Expr} (form : Form a w z make) (h : p .left ≡ w ++ v) where
-      two-made : (q : Parsed) (x : List ℕ) → Sound cap k (p .node) v q → q .left ≡ z ++ x → q .node < cap
+    module _ {kind : ℕ} {a w z : List ℕ} {make : ℕ → Expr → Expr → Expr} (form : Form kind a w z make) (h : p .left ≡ w ++ v) where
+      two-made : (q : Parsed) (x : List ℕ) → Sound cap (besides k kind) (p .node) v q → q .left ≡ z ++ x → q .node < cap
           → Sound cap (suc k) f (a ++ u) (parsed (make (q .node) (p .expr) (q .expr)) (q .node + 1) x)
       two-made q x t b l =
-          let (y, c, d) = form .is (q .node) (p .expr) (q .expr) in
+          let (y, c) = form .is (q .node) (p .expr) (q .expr) in
+          let d = form .few k (q .node) (p .expr) (q .expr) (s .measures .2) (t .measures .2) in
           let n : f + size (p .expr) ≡ p .node = omega arith in
           record {
             reads = rw (y, s .reads, h, t .reads, b) (simp append-assoc);
@@ -200,11 +214,11 @@ module _ (cap k : ℕ) (sub : ℕ → List ℕ → Option Parsed) (sound : (f : 
             held = form .holds (q .node) f (p .expr) (q .expr) (omega arith) (s .held) (rw n (t .held));
           }
 
-      two-give : Gives (Sound cap (suc k) f (a ++ u)) (on (sub (p .node) v) (λ q. on (behind z (q .left)) (λ x. noded cap (q .node) (make (q .node) (p .expr) (q .expr)) x)))
-      two-give = after _ (sound (p .node) v) (λ q t. after _ (behind-gives z (q .left)) (λ x b. node-gives cap (q .node) _ x (two-made q x t b)))
+      two-give : Gives (Sound cap (suc k) f (a ++ u)) (on (sub (besides k kind) (p .node) v) (λ q. on (behind z (q .left)) (λ x. noded cap (q .node) (make (q .node) (p .expr) (q .expr)) x)))
+      two-give = after _ (sound (besides k kind) (p .node) v) (λ q t. after _ (behind-gives z (q .left)) (λ x b. node-gives cap (q .node) _ x (two-made q x t b)))
 
-    if-made : (q t : Parsed) (x y : List ℕ) → p .left ≡ bytes " then " ++ v → Sound cap k (p .node) v q → q .left ≡ bytes " else " ++ x
-        → Sound cap k (q .node) x t → t .left ≡ bytes ")" ++ y → t .node < cap
+    if-made : (q t : Parsed) (x y : List ℕ) → p .left ≡ bytes " then " ++ v → Sound cap (1 + k) (p .node) v q → q .left ≡ bytes " else " ++ x
+        → Sound cap (1 + k) (q .node) x t → t .left ≡ bytes ")" ++ y → t .node < cap
         → Sound cap (suc k) f (bytes "(if " ++ u) (parsed (if p .expr then q .expr else t .expr) (t .node + 1) y)
     unfolding text
     if-made q t x y h s₂ b s₃ c l =
@@ -219,10 +233,10 @@ module _ (cap k : ℕ) (sub : ℕ → List ℕ → Option Parsed) (sound : (f : 
           };
         }
 
-    branch-gives : (q : Parsed) → p .left ≡ bytes " then " ++ v → Sound cap k (p .node) v q → Gives (Sound cap (suc k) f (bytes "(if " ++ u)) (branchOf cap sub p q)
+    branch-gives : (q : Parsed) → p .left ≡ bytes " then " ++ v → Sound cap (1 + k) (p .node) v q → Gives (Sound cap (suc k) f (bytes "(if " ++ u)) (branchOf cap sub k p q)
     unfolding branchOf
     branch-gives q h s₂ =
-        after _ (behind-gives (bytes " else ") (q .left)) (λ x b. after _ (sound (q .node) x) (λ t s₃.
+        after _ (behind-gives (bytes " else ") (q .left)) (λ x b. after _ (sound (1 + k) (q .node) x) (λ t s₃.
         after _ (behind-gives (bytes ")") (t .left)) (λ y c. node-gives cap (t .node) _ y (if-made q t x y h s₂ b s₃ c))))
 
     assign-made : (l : Loc) → l ≤ 255 → p .left ≡ bytes ")" ++ v → p .node < cap
@@ -238,11 +252,11 @@ module _ (cap k : ℕ) (sub : ℕ → List ℕ → Option Parsed) (sound : (f : 
   module _ (f : ℕ) (u : List ℕ) (p : Parsed) (s : Sound cap k f u p) where
     -- what is read there
     abbrev rest : Head → Option Parsed
-    rest h = on (jointOf (h .kind) (p .left)) (λ j. cond (eqb (j .kind) 5) (noded cap (p .node) (h .location := p .expr) (j .left)) (secondOf cap sub p j))
+    rest h = on (jointOf (h .kind) (p .left)) (λ j. cond (eqb (j .kind) 5) (noded cap (p .node) (h .location := p .expr) (j .left)) (secondOf cap sub k p j))
 
     if-gives : Gives (Sound cap (suc k) f (bytes "(if " ++ u)) (rest (head-of 4 0 u))
-    unfolding jointOf secondOf
-    if-gives = joint-gives (bytes " then ") 4 (p .left) _ (λ v h. after _ (sound (p .node) v) (λ q t. branch-gives f u v p s q h t))
+    unfolding jointOf secondOf besides
+    if-gives = joint-gives (bytes " then ") 4 (p .left) _ (λ v h. after _ (sound (1 + k) (p .node) v) (λ q t. branch-gives f u v p s q h t))
 
     while-gives : Gives (Sound cap (suc k) f (bytes "(while " ++ u)) (rest (head-of 9 0 u))
     unfolding jointOf secondOf closeOf twoParts
@@ -253,15 +267,15 @@ module _ (cap k : ℕ) (sub : ℕ → List ℕ → Option Parsed) (sound : (f : 
     assign-gives l b = joint-gives (bytes ")") 5 (p .left) _ (λ v h. node-gives cap (p .node) _ v (assign-made f u v p s l b h))
 
     sides-give : Gives (Sound cap (suc k) f (bytes "(" ++ u)) (rest (head-of 2 0 u))
-    unfolding jointOf sidesJoint secondOf closeOf twoParts
+    unfolding jointOf sidesJoint secondOf besides closeOf twoParts
     sides-give =
-        split (eqb (getD (p .left) 1 256) 43) _ _ _ (joint-gives (bytes " + ") 2 (p .left) _ (λ v h. two-give f u v p s (op-form plus) h))
-        (split (eqb (getD (p .left) 1 256) 62) _ _ _ (joint-gives (bytes " >= ") 3 (p .left) _ (λ v h. two-give f u v p s (op-form geq) h))
+        split (eqb (getD (p .left) 1 256) 43) _ _ _ (joint-gives (bytes " + ") 2 (p .left) _ (λ v h. two-give f u v p s (op-form plus 2 (λ _. refl)) h))
+        (split (eqb (getD (p .left) 1 256) 62) _ _ _ (joint-gives (bytes " >= ") 3 (p .left) _ (λ v h. two-give f u v p s (op-form geq 3 (λ _. refl)) h))
         (joint-gives (bytes " ; ") 8 (p .left) _ (λ v h. two-give f u v p s seq-form h)))
 
-  form-gives : (f : ℕ) (u : List ℕ) → Gives (Sound cap (suc k) f (40 ∷ u)) (formOf cap sub f u)
+  form-gives : (f : ℕ) (u : List ℕ) → Gives (Sound cap (suc k) f (40 ∷ u)) (formOf cap sub k f u)
   unfolding formOf
-  form-gives f u = after _ (head-gives u) (λ h b. after _ (sound f (h .left)) (λ p s. go b p s))
+  form-gives f u = after _ (head-gives u) (λ h b. after _ (sound k f (h .left)) (λ p s. go b p s))
     where
       go : {h : Head} → Begun u h → (p : Parsed) → (s : Sound cap k f (h .left) p) → Gives (Sound cap (suc k) f (40 ∷ u)) (rest f (h .left) p s h)
       go (by-if {v = v} q) p s = rw q (if-gives f v p s)
@@ -275,32 +289,34 @@ alone-gives cap k f u =
     after _ (leaf-gives u) (λ l s. let (n, d, o) = s .bare f in node-gives cap f (l .expr) (l .left) (λ h.
     record { reads = s .reads; measures = omega arith; held = record { small = s .small; own = o } }))
 
-parse-gives : (cap k f : ℕ) (u : List ℕ) → Gives (Sound cap k f u) (parse cap k f u)
+parse-gives : (cap levels k f : ℕ) (u : List ℕ) → Gives (Sound cap k f u) (parse cap levels k f u)
 unfolding parse
-parse-gives cap zero f u = either (eqb (front u) 40) (λ t. nothing) (λ t. alone-gives cap zero f u)
-parse-gives cap (suc k) f u =
-    either (eqb (front u) 40) (λ t. rw (in-front 40 u (omega arith) t) (form-gives cap k (parse cap k) (parse-gives cap k) f (drop 1 u))) (λ t. alone-gives cap (suc k) f u)
+parse-gives cap zero k f u = either (eqb (front u) 40) (λ t. nothing) (λ t. alone-gives cap k f u)
+parse-gives cap (suc levels) zero f u = either (eqb (front u) 40) (λ t. nothing) (λ t. alone-gives cap zero f u)
+parse-gives cap (suc levels) (suc k) f u =
+    either (eqb (front u) 40) (λ t. rw (in-front 40 u (omega arith) t) (form-gives cap k (parse cap levels) (parse-gives cap levels) f (drop 1 u))) (λ t. alone-gives cap (suc k) f u)
 
-pub parse-sound : (cap k f : ℕ) (u : List ℕ) (p : Parsed) → parse cap k f u ≡ some p → Sound cap k f u p
-parse-sound cap k f u p e = given (parse-gives cap k f u) e
+pub parse-sound : (cap levels k f : ℕ) (u : List ℕ) (p : Parsed) → parse cap levels k f u ≡ some p → Sound cap k f u p
+parse-sound cap levels k f u p e = given (parse-gives cap levels k f u) e
 
 -- ---- a whole text
 
-pub storable-of : (m cap : ℕ) (t : List ℕ) (e : Expr) (g : ℕ) → m ≤ 64 → parse cap 255 0 t ≡ some (parsed e g []) → cap ≤ 4096
+pub storable-of : (m cap : ℕ) (t : List ℕ) (e : Expr) (g : ℕ) → m ≤ 64 → parse cap 2175 256 0 t ≡ some (parsed e g []) → cap ≤ 4096
     → Storable m e × (t ≡ text e) × (g ≡ size e)
 storable-of m cap t e g l h c =
-    let s = parse-sound cap 255 0 t (parsed e g []) h in
+    let s = parse-sound cap 2175 256 0 t (parsed e g []) h in
     (held-storable e l (omega arith) (omega arith) (s .held), s .reads ∙ append-nil (text e), omega arith)
 
--- where the parser has room for every tree that t can be, and none is found, no tree within 01's limits has the text t
+-- a tree within the limits is at most 2,176 deep: where the parser has room for every tree that t can be, and none is found, no tree within the
+-- limits has the text t
 pub unreadable : (t : List ℕ) (cap : ℕ) → ((e : Expr) → t ≡ text e → size e ≤ 4096 → size e ≤ cap)
-    → ¬ ((p : Parsed) × (parse cap 255 0 t ≡ some p) × (p .left ≡ [])) → Unreadable t
+    → ¬ ((p : Parsed) × (parse cap 2175 256 0 t ≡ some p) × (p .left ≡ [])) → Unreadable t
 unreadable t cap room none-found = record {
-  none-fits = λ e q s n d.
-      let r = room e q n in
+  none-fits = λ e q s n p.
+      let r = room e q n in let d = depth-by-places e in
       none-found (
         parsed (renumber 0 e) (0 + size e) [],
-        rw (q, ← append-nil (text e)) (parse-finds e cap 255 0 [] s (omega arith) (omega arith) refl),
+        rw (q, ← append-nil (text e)) (parse-finds e cap 2175 256 0 [] s (omega arith) p (omega arith) refl),
         refl,
       );
 }

@@ -141,19 +141,25 @@ noded cap f e u = cond (ltb f cap) (some (parsed e (f + 1) u)) none
 unfoldable pub leaf : ℕ → ℕ → List ℕ → Option Parsed
 leaf cap f u = on (leafOf u) (λ l. noded cap f (l .expr) (l .left))
 
-module _ (cap : ℕ) (sub : ℕ → List ℕ → Option Parsed) where
+-- the places that a second part may have, where a part inside the form may have k: a branch of an if and the second part of a sequence
+-- are worked in the form's own place
+unfoldable pub besides : ℕ → ℕ → ℕ
+besides k kind = cond (eqb kind 4) (1 + k) (cond (eqb kind 8) (1 + k) k)
+
+-- the parts of a form, read by `sub` with so many places; k are those of a part inside the form
+module _ (cap : ℕ) (sub : ℕ → ℕ → List ℕ → Option Parsed) (k : ℕ) where
   -- the third part of an if, its first two being read
   unfoldable pub branchOf : Parsed → Parsed → Option Parsed
   branchOf p q =
       on (behind (bytes " else ") (q .left)) (λ v.
-      on (sub (q .node) v) (λ s.
+      on (sub (1 + k) (q .node) v) (λ s.
       on (behind (bytes ")") (s .left)) (λ w.
       noded cap (s .node) (if p .expr then q .expr else s .expr) w)))
 
   -- the second part and what is behind it
   unfoldable pub secondOf : Parsed → Joint → Option Parsed
   secondOf p j =
-      on (sub (p .node) (j .left)) (λ q.
+      on (sub (besides k (j .kind)) (p .node) (j .left)) (λ q.
       cond (eqb (j .kind) 4) (branchOf p q)
       (on (closeOf (j .kind) (q .left)) (λ w. noded cap (q .node) (twoParts (j .kind) (q .node) (p .expr) (q .expr)) w)))
 
@@ -161,11 +167,12 @@ module _ (cap : ℕ) (sub : ℕ → List ℕ → Option Parsed) where
   unfoldable pub formOf : ℕ → List ℕ → Option Parsed
   formOf f u =
       on (headOf u) (λ h.
-      on (sub f (h .left)) (λ p.
+      on (sub k f (h .left)) (λ p.
       on (jointOf (h .kind) (p .left)) (λ j.
       cond (eqb (j .kind) 5) (noded cap (p .node) (h .location := p .expr) (j .left)) (secondOf p j))))
 
--- no more than k brackets inside one another
-unfoldable pub parse : ℕ → ℕ → ℕ → List ℕ → Option Parsed
-parse cap zero f u = cond (eqb (front u) 40) none (leaf cap f u)
-parse cap (suc k) f u = cond (eqb (front u) 40) (formOf cap (parse cap k) f (drop 1 u)) (leaf cap f u)
+-- no more than `levels` brackets inside one another, and no more than k places
+unfoldable pub parse : ℕ → ℕ → ℕ → ℕ → List ℕ → Option Parsed
+parse cap zero k f u = cond (eqb (front u) 40) none (leaf cap f u)
+parse cap (suc levels) zero f u = cond (eqb (front u) 40) none (leaf cap f u)
+parse cap (suc levels) (suc k) f u = cond (eqb (front u) 40) (formOf cap (parse cap levels) k f (drop 1 u)) (leaf cap f u)

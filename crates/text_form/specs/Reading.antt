@@ -4,7 +4,7 @@ use mathlib.Core.Path.{_≡_}
 use mathlib.Core.List.{List, [], _∷_, _++_}
 use lib.ListN.{length, drop}
 use Rattle.l1.specs.Syntax.{Expr}
-use Rattle.l1.specs.Measures.{size, depth}
+use Rattle.l1.specs.Measures.{size, places}
 use Rattle.l1.specs.Text.{text}
 use Rattle.stored.specs.Stages.{Refusal, Stage, _when_, _at_, First}
 use Rattle.stored.specs.Stored.{stored, Storable}
@@ -15,15 +15,18 @@ use Rattle.text_form.specs.Numbers.{LargeInteger, LargeLocation, Foremos
 abbrev pub TextHas : List ℕ → (Expr → Type 0) → Type 0
 TextHas t P = (e : Expr) × (t ≡ text e) × P e
 
--- what is refused of the text itself: "50 .. 51 .. 52 .. 5 and 9 on what was read"
-abbrev pub of-text : List ℕ → List Stage
-of-text t =
+-- what is refused of the text before its places are counted: "50 .. 51 .. 52 .. 5 .. on what was read"
+abbrev pub before-places : List ℕ → List Stage
+before-places t =
     (50 at Leaves t)
     ∷ (51 at (λ i. TextHas t (λ e. Foremost (LargeInteger e) i)))
     ∷ (52 at (λ i. TextHas t (λ e. Foremost (LargeLocation e) i)))
     ∷ (5 when TextHas t (λ e. 4096 < size e))
-    ∷ (9 when TextHas t (λ e. 256 < depth e))
     ∷ []
+
+-- what is refused of the text itself; 9 as request 2 of 02 has it
+abbrev pub of-text : List ℕ → List Stage
+of-text t = before-places t ++ (9 when TextHas t (λ e. 256 < places e)) ∷ []
 
 -- "53 lent room too short, with the bytes needed"
 abbrev pub too-short : List ℕ → ℕ → List Stage

@@ -4,7 +4,7 @@ use mathlib.Core.Path.{_≡_}
 use mathlib.Core.List.{List}
 use lib.IntN.{pos, negsuc}
 use Rattle.l1.specs.Syntax.{Expr, int, bool, _‹_#_›_, if_then_else_, _:=_, !_, skip, _⨾_, while_do′_done}
-use Rattle.l1.specs.Measures.{size, depth}
+use Rattle.l1.specs.Measures.{size, places}
 use Rattle.l1.specs.Text.{text}
 use Rattle.text_form.specs.Numbers.{LargeInteger, LargeLocation}
 
@@ -21,9 +21,9 @@ Small skip = Unit
 Small (e₁ ⨾ e₂) = Small e₁ × Small e₂
 Small (while e₁ do′ e₂ done) = Small e₁ × Small e₂
 
--- no tree within 01's limits has the text t
+-- no tree within the limits has the text t
 pub record Unreadable (t : List ℕ) : Type 0 where
-  pub none-fits : (e : Expr) → t ≡ text e → Small e → size e ≤ 4096 → ¬ (depth e ≤ 256)
+  pub none-fits : (e : Expr) → t ≡ text e → Small e → size e ≤ 4096 → ¬ (places e ≤ 256)
 
 pub record NoLargeInteger (t : List ℕ) : Type 0 where
   pub none-large : (e : Expr) → t ≡ text e → (i : ℕ) → ¬ LargeInteger e i
