@@ -2,10 +2,12 @@
 use Prim.Native.Nat.{ℕ, zero, suc, _+_, _-_, _*_, _/_, _%_, _≤_, _<_}
 use native.Mathlib.Omega.{arith}
 use native.Mathlib.Decide.{decLt}
-use mathlib.Core.Path.{_≡_, refl, _∙_, ap}
+use mathlib.Core.Path.{_≡_, refl, sym, _∙_, ap}
+use mathlib.Core.Bool.{true, false, _||_, true≢false}
 use mathlib.Core.List.{List, [], _∷_, _++_}
 use mathlib.Core.Option.{Option, none, some}
 use borrow.Author.Tests.{lt-ltb, le-ltb, ne-eqb}
+use lib.Dec.{eqb, eqb·suc-zero}
 use lib.ListN.{length, getD, set, drop, length-append, length-set}
 use lib.Seq.{sets, length-sets}
 use Rattle.l1.specs.Syntax.{Expr}
@@ -114,19 +116,31 @@ module _ (t nodes : List ℕ) (f i : ℕ) {l : Leaf} (L : LeafAs t (leafOf (drop
       let (e, a) = L .is .something (over-zero h) in
       rw e (closes (L .expr) (nothing-yet nodes f) (L .bytes f) (rw (L .one) refl) (over-zero h) a N)
 
--- ---- what the first byte and the depth tell
+-- ---- what the first byte tells, and how much may still come
+
+pub some-left : (d k : ℕ) → eqb d 0 || eqb k 0 ≡ false → (1 ≤ d) × (1 ≤ k)
+some-left zero k z = absurd (true≢false z)
+some-left (suc d) zero z = let x : true ≡ false = rw (eqb·suc-zero d) at z in absurd (true≢false x)
+some-left (suc d) (suc k) z = (omega arith, omega arith)
 
 module _ (t : List ℕ) (cap : ℕ) where
-  pub unopened : (d f i : ℕ) {b : ℕ} → b ≡ getD t i 256 → (b ≡ 40 → ⊥) → parse cap d f (drop i t) ≡ leaf cap f (drop i t)
+  pub unopened : (d k f i : ℕ) {b : ℕ} → b ≡ getD t i 256 → (b ≡ 40 → ⊥) → parse cap d k f (drop i t) ≡ leaf cap f (drop i t)
   unfolding parse
-  unopened zero f i {b} hb n = rw (front-at t i, ← hb, ne-eqb b 40 n) refl
-  unopened (suc d) f i {b} hb n = rw (front-at t i, ← hb, ne-eqb b 40 n) refl
+  unopened zero k f i {b} hb n = rw (front-at t i, ← hb, ne-eqb b 40 n) refl
+  unopened (suc d) zero f i {b} hb n = rw (front-at t i, ← hb, ne-eqb b 40 n) refl
+  unopened (suc d) (suc k) f i {b} hb n = rw (front-at t i, ← hb, ne-eqb b 40 n) refl
 
-  pub too-deep : (d f i : ℕ) {b : ℕ} → b ≡ getD t i 256 → b ≡ 40 → d ≡ 0 → parse cap d f (drop i t) ≡ none
+  pub no-more : (d k f i : ℕ) {b : ℕ} → b ≡ getD t i 256 → b ≡ 40 → eqb d 0 || eqb k 0 ≡ true → parse cap d k f (drop i t) ≡ none
   unfolding parse
-  too-deep d f i hb e z = rw (z, front-at t i, ← hb, e) refl
+  no-more zero k f i hb e z = rw (front-at t i, ← hb, e) refl
+  no-more (suc d) zero f i hb e z = rw (front-at t i, ← hb, e) refl
+  no-more (suc d) (suc k) f i hb e z = let x : false ≡ true = rw (eqb·suc-zero d, eqb·suc-zero k) at z in absurd (true≢false (sym x))
 
-  pub opened : (d f i : ℕ) {b : ℕ} → b ≡ getD t i 256 → b ≡ 40 → (d ≡ 0 → ⊥) → parse cap d f (drop i t) ≡ formOf cap (parse cap (d - 1)) f (drop (i + 1) t)
+  pub opened : (d k f i : ℕ) {b : ℕ} → b ≡ getD t i 256 → b ≡ 40 → eqb d 0 || eqb k 0 ≡ false
+      → parse cap d k f (drop i t) ≡ formOf cap (parse cap (d - 1)) (k - 1) f (drop (i + 1) t)
   unfolding parse
-  opened zero f i hb e n = absurd (n refl)
-  opened (suc d) f i hb e n = let z : suc d - 1 ≡ d = omega arith in rw (z, front-at t i, ← hb, e, behind-one t i) refl
+  opened zero k f i hb e z = absurd (true≢false z)
+  opened (suc d) zero f i hb e z = absurd (omega (arith, some-left (suc d) zero z))
+  opened (suc d) (suc k) f i hb e z =
+      let x : suc d - 1 ≡ d = omega arith in let y : suc k - 1 ≡ k = omega arith in
+      rw (x, y, front-at t i, ← hb, e, behind-one t i) refl

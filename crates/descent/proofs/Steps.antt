@@ -14,41 +14,46 @@ use Rattle.l1.specs.Measures.{size}
 use Rattle.l1.specs.Text.{bytes}
 use Rattle.l1.proofs.Nodes.{size-positive}
 use Rattle.stored.specs.Stored.{nodeBytes, bytesFrom}
-use Rattle.text_form.specs.Parser.{on, behind, number, assignHead, headOf, joint-of, wordJoint, sidesJoint, jointOf, closeOf, twoParts, Parsed, noded, branchOf, secondOf, formOf, parse}
+use Rattle.text_form.specs.Parser.{on, behind, number, assignHead, headOf, joint-of, wordJoint, sidesJoint, jointOf, closeOf, twoParts, Parsed, noded, besides, branchOf, secondOf, formOf, parse}
 use Rattle.text_form.specs.Parser as p
 use Rattle.descent.specs.Found.{Found, Known, plus-kind, geq-kind, seq-kind, while-kind, Noding, Reading}
 use Rattle.descent.specs.declared.Place.{Place}
 use Rattle.descent.proofs.Words.{front-at, behind-one, byte-there, over-zero}
 use Rattle.descent.proofs.Forms.{nowhere, refused, Written, nothing-yet, one-more, closes}
 
--- a text without nodes and what is behind it, a part, and at the end the root, which may name its own number
+-- a text without nodes and what is behind it, a part with so many places, and at the end the root, which may name its own number
 pub data Steps : Type 1 where
   text : {A : Type 0} → (List ℕ → Option A) → (A → List ℕ) → (A → Steps) → Steps
-  part : (Expr → Steps) → Steps
+  part : ℕ → (Expr → Steps) → Steps
   root : (ℕ → Expr) → Steps
 
 abbrev word : List ℕ → Steps → Steps
 word w s = text (behind w) (λ v. v) (λ v. s)
 
-module _ (cap : ℕ) (sub : ℕ → List ℕ → Option Parsed) where
+module _ (cap : ℕ) (sub : ℕ → ℕ → List ℕ → Option Parsed) where
   unfoldable pub run : Steps → ℕ → List ℕ → Option Parsed
   run (text look left s) f u = on (look u) (λ a. run (s a) f (left a))
-  run (part s) f u = on (sub f u) (λ p. run (s (p .expr)) (p .node) (p .left))
+  run (part k s) f u = on (sub k f u) (λ p. run (s (p .expr)) (p .node) (p .left))
   run (root e) f u = noded cap f (e f) u
 
 -- ---- each form has its steps, by the byte in front
 
-abbrev pub if-steps : Steps
-if-steps = word (bytes "if ") (part (λ e₁. word (bytes " then ") (part (λ e₂. word (bytes " else ") (part (λ e₃. word (bytes ")") (root (λ n. if e₁ then e₂ else e₃))))))))
+-- k are the places of a part inside the form
+abbrev pub if-steps : ℕ → Steps
+if-steps k =
+    word (bytes "if ") (part k (λ e₁.
+    word (bytes " then ") (part (k + 1) (λ e₂.
+    word (bytes " else ") (part (k + 1) (λ e₃.
+    word (bytes ")") (root (λ n. if e₁ then e₂ else e₃))))))))
 
-abbrev pub while-steps : Steps
-while-steps = word (bytes "while ") (part (λ e₁. word (bytes " do ") (part (λ e₂. word (bytes " done)") (root (λ n. twoParts 9 n e₁ e₂))))))
+abbrev pub while-steps : ℕ → Steps
+while-steps k = word (bytes "while ") (part k (λ e₁. word (bytes " do ") (part k (λ e₂. word (bytes " done)") (root (λ n. twoParts 9 n e₁ e₂))))))
 
-abbrev pub assign-steps : Steps
-assign-steps = text (number 255) (λ l. l .left) (λ l. word (bytes " := ") (part (λ e. word (bytes ")") (root (λ n. l .value := e)))))
+abbrev pub assign-steps : ℕ → Steps
+assign-steps k = text (number 255) (λ l. l .left) (λ l. word (bytes " := ") (part k (λ e. word (bytes ")") (root (λ n. l .value := e)))))
 
-abbrev pub side-steps : Steps
-side-steps = part (λ e₁. text sidesJoint (λ k. k .left) (λ k. part (λ e₂. word (bytes ")") (root (λ n. twoParts (k .kind) n e₁ e₂)))))
+abbrev pub side-steps : ℕ → Steps
+side-steps k = part k (λ e₁. text sidesJoint (λ j. j .left) (λ j. part (besides k (j .kind)) (λ e₂. word (bytes ")") (root (λ n. twoParts (j .kind) n e₁ e₂)))))
 
 on-on : {A B C : Type 0} (o : Option A) (f : A → Option B) (g : B → Option C) → on (on o f) g ≡ on o (λ a. on (f a) g)
 on-on none f g = refl
@@ -75,24 +80,24 @@ module _ (u : List ℕ) (f g : p.Joint → Option Parsed) where
       either-same (eqb (getD u 1 256) 43) _ _ (word-same (bytes " + ") 2 h₂)
       (either-same (eqb (getD u 1 256) 62) _ _ (word-same (bytes " >= ") 3 h₃) (word-same (bytes " ; ") 8 h₈))
 
-module _ (cap : ℕ) (sub : ℕ → List ℕ → Option Parsed) (f : ℕ) (t : List ℕ) (i : ℕ) where
-  if-is : getD t i 256 ≡ 105 → formOf cap sub f (drop i t) ≡ run cap sub if-steps f (drop i t)
-  unfolding formOf headOf jointOf wordJoint secondOf branchOf run
-  if-is e = rw (front-at t i, e) (simp on-on)
+module _ (cap : ℕ) (sub : ℕ → ℕ → List ℕ → Option Parsed) (k f : ℕ) (t : List ℕ) (i : ℕ) where
+  if-is : getD t i 256 ≡ 105 → formOf cap sub k f (drop i t) ≡ run cap sub (if-steps k) f (drop i t)
+  unfolding formOf headOf jointOf wordJoint secondOf besides branchOf run
+  if-is e = let z : k + 1 ≡ 1 + k = omega arith in rw (front-at t i, e, z) (simp on-on)
 
-  while-is : getD t i 256 ≡ 119 → formOf cap sub f (drop i t) ≡ run cap sub while-steps f (drop i t)
-  unfolding formOf headOf jointOf wordJoint secondOf closeOf twoParts run
+  while-is : getD t i 256 ≡ 119 → formOf cap sub k f (drop i t) ≡ run cap sub (while-steps k) f (drop i t)
+  unfolding formOf headOf jointOf wordJoint secondOf besides closeOf twoParts run
   while-is e = rw (front-at t i, e) (simp on-on)
 
-  assign-is : getD t i 256 ≡ 108 → formOf cap sub f (drop i t) ≡ run cap sub assign-steps f (drop (i + 1) t)
+  assign-is : getD t i 256 ≡ 108 → formOf cap sub k f (drop i t) ≡ run cap sub (assign-steps k) f (drop (i + 1) t)
   unfolding formOf headOf assignHead jointOf wordJoint run
   assign-is e = rw (front-at t i, e, behind-one t i) (simp on-on)
 
-  sides-are : (getD t i 256 ≡ 105 → ⊥) → (getD t i 256 ≡ 119 → ⊥) → (getD t i 256 ≡ 108 → ⊥) → formOf cap sub f (drop i t) ≡ run cap sub side-steps f (drop i t)
+  sides-are : (getD t i 256 ≡ 105 → ⊥) → (getD t i 256 ≡ 119 → ⊥) → (getD t i 256 ≡ 108 → ⊥) → formOf cap sub k f (drop i t) ≡ run cap sub (side-steps k) f (drop i t)
   unfolding formOf headOf jointOf secondOf closeOf run
   sides-are n₁ n₂ n₃ =
       rw (front-at t i, ne-eqb (getD t i 256) 105 n₁, ne-eqb (getD t i 256) 119 n₂, ne-eqb (getD t i 256) 108 n₃)
-      (on-same (sub f (drop i t)) _ _ (λ p. signs-same (p .left) _ _ (λ v. refl) (λ v. refl) (λ v. refl)))
+      (on-same (sub k f (drop i t)) _ _ (λ p. signs-same (p .left) _ _ (λ v. refl) (λ v. refl) (λ v. refl)))
 
 -- ---- what is left
 
@@ -103,22 +108,22 @@ pub record Left (t nodes : List ℕ) (d f : ℕ) (o : Option Parsed) (s : Steps)
   pub inside : i ≤ length t
   pub room : length nodes′ ≤ 32768
 
-module _ (t nodes : List ℕ) (d f i : ℕ) where
+module _ (t nodes : List ℕ) (d k f i : ℕ) where
   abbrev whole : Option Parsed
-  whole = formOf (length nodes / 8) (parse (length nodes / 8) d) f (drop i t)
+  whole = formOf (length nodes / 8) (parse (length nodes / 8) d) k f (drop i t)
 
-  pub if-left : (i ≤ length t) × (length nodes ≤ 32768) × (getD t i 256 ≡ 105) → Left t nodes d f whole if-steps i [] nodes f
-  if-left (l, m, e) = record { is = if-is _ _ f t i e; written = nothing-yet nodes f; inside = l; room = m }
+  pub if-left : (i ≤ length t) × (length nodes ≤ 32768) × (k < 18446744073709551615) × (getD t i 256 ≡ 105) → Left t nodes d f whole (if-steps k) i [] nodes f
+  if-left (l, m, x, e) = record { is = if-is _ _ k f t i e; written = nothing-yet nodes f; inside = l; room = m }
 
-  pub while-left : (i ≤ length t) × (length nodes ≤ 32768) × (getD t i 256 ≡ 119) → Left t nodes d f whole while-steps i [] nodes f
-  while-left (l, m, e) = record { is = while-is _ _ f t i e; written = nothing-yet nodes f; inside = l; room = m }
+  pub while-left : (i ≤ length t) × (length nodes ≤ 32768) × (getD t i 256 ≡ 119) → Left t nodes d f whole (while-steps k) i [] nodes f
+  while-left (l, m, e) = record { is = while-is _ _ k f t i e; written = nothing-yet nodes f; inside = l; room = m }
 
-  pub assign-left : (i ≤ length t) × (length nodes ≤ 32768) × (getD t i 256 ≡ 108) → Left t nodes d f whole assign-steps (i + 1) [] nodes f
-  assign-left (l, m, e) = record { is = assign-is _ _ f t i e; written = nothing-yet nodes f; inside = byte-there t i refl (omega arith); room = m }
+  pub assign-left : (i ≤ length t) × (length nodes ≤ 32768) × (getD t i 256 ≡ 108) → Left t nodes d f whole (assign-steps k) (i + 1) [] nodes f
+  assign-left (l, m, e) = record { is = assign-is _ _ k f t i e; written = nothing-yet nodes f; inside = byte-there t i refl (omega arith); room = m }
 
-  pub sides-left : (i ≤ length t) × (length nodes ≤ 32768) × (getD t i 256 ≡ 105 → ⊥) × (getD t i 256 ≡ 119 → ⊥) × (getD t i 256 ≡ 108 → ⊥)
-      → Left t nodes d f whole side-steps i [] nodes f
-  sides-left (l, m, n₁, n₂, n₃) = record { is = sides-are _ _ f t i n₁ n₂ n₃; written = nothing-yet nodes f; inside = l; room = m }
+  pub sides-left : (i ≤ length t) × (length nodes ≤ 32768) × (k < 18446744073709551615) × (getD t i 256 ≡ 105 → ⊥) × (getD t i 256 ≡ 119 → ⊥) × (getD t i 256 ≡ 108 → ⊥)
+      → Left t nodes d f whole (side-steps k) i [] nodes f
+  sides-left (l, m, x, n₁, n₂, n₃) = record { is = sides-are _ _ k f t i n₁ n₂ n₃; written = nothing-yet nodes f; inside = l; room = m }
 
 -- the numbers that a part leaves
 pub record Counts (f : ℕ) (e : Expr) (n : ℕ) : Type 0 where
@@ -140,8 +145,12 @@ module _ {t nodes : List ℕ} {d f : ℕ} {o : Option Parsed} {i : ℕ} {ws node
     unfolding run
     text-read h e = let (u, a) = F .something (over-zero h) in record { is = L .is ∙ rw (u, e (drop r t)) refl; written = L .written; inside = a; room = L .room }
 
-  module _ {s : Expr → Steps} (L : Left t nodes d f o (part s) i ws nodes₁ n) {nodes₂ : List ℕ} {r : Place}
-      (R : Reading t nodes₁ n (parse (length nodes₁ / 8) d n (drop i t)) nodes₂ r) where
+  -- its places, known by another number
+  pub part-with : {k k′ : ℕ} {s : Expr → Steps} → Left t nodes d f o (part k s) i ws nodes₁ n → k′ ≡ k → Left t nodes d f o (part k′ s) i ws nodes₁ n
+  part-with L e = rw e L
+
+  module _ {k : ℕ} {s : Expr → Steps} (L : Left t nodes d f o (part k s) i ws nodes₁ n) {nodes₂ : List ℕ} {r : Place}
+      (R : Reading t nodes₁ n (parse (length nodes₁ / 8) d k n (drop i t)) nodes₂ r) where
     pub no-part : r .at ≡ 0 → Reading t nodes f o nodes₂ nowhere
     unfolding run
     no-part z = let u = rw (kept L) at (R .nothing z) in refused (R .kept ∙ kept L) (L .is ∙ rw u refl)
@@ -186,6 +195,13 @@ two-rooted plus-kind x y = let a = x .count in let b = y .count in record { all 
 two-rooted geq-kind x y = let a = x .count in let b = y .count in record { all = rw (b, a, append-assoc) refl; last = omega arith }
 two-rooted seq-kind x y = let a = x .count in let b = y .count in record { all = rw (b, a, append-assoc) refl; last = omega arith }
 two-rooted while-kind x y = let a = x .count in let b = y .count in record { all = rw (b, a, append-assoc) refl; last = omega arith }
+
+-- a form of two sides is no if
+pub not-if : {k : ℕ} → Known k → k ≡ 4 → ⊥
+not-if plus-kind e = omega arith
+not-if geq-kind e = omega arith
+not-if seq-kind e = omega arith
+not-if while-kind e = omega arith
 
 -- the root behind the last word
 pub form-read : {t nodes : List ℕ} {d f : ℕ} {o : Option Parsed} {i : ℕ} {ws nodes₁ : List ℕ} {n : ℕ} {e : ℕ → Expr} → Left t nodes d f o (root e) i ws nodes₁ n → (i ≡ 0 → ⊥)

@@ -205,16 +205,17 @@ fn put_leaf(t: &[u8], i: usize, nodes: &mut [u8], f: usize) -> Place
     put_node(nodes, f, l.kind, l.arg, 0, w / 65536, w % 65536, l.at)
 }
 
-// An if, from behind its bracket on, as the forms below.
-fn if_form(t: &[u8], i: usize, depth: usize, nodes: &mut [u8], f: usize) -> Place
-    requires { ⌜ (i ≤ length (now t)) × (length (now nodes) ≤ 32768) × (getD (now t) i 256 ≡ 105) ⌝ }
-    ensures { λ r. ⌜ Reading (now (t .entry)) (now (nodes .entry)) f (p.formOf (length (now (nodes .entry)) / 8) (p.parse (length (now (nodes .entry)) / 8) depth) f (drop i (now (t .entry)))) (now (nodes .exit)) r ⌝ }
+// An if, from behind its bracket on, as the forms below; `places` are those of a part inside it. A branch is worked in the if's own place, so it
+// may have one more.
+fn if_form(t: &[u8], i: usize, levels: usize, places: usize, nodes: &mut [u8], f: usize) -> Place
+    requires { ⌜ (i ≤ length (now t)) × (length (now nodes) ≤ 32768) × (places < 18446744073709551615) × (getD (now t) i 256 ≡ 105) ⌝ }
+    ensures { λ r. ⌜ Reading (now (t .entry)) (now (nodes .entry)) f (p.formOf (length (now (nodes .entry)) / 8) (p.parse (length (now (nodes .entry)) / 8) levels) places f (drop i (now (t .entry)))) (now (nodes .exit)) r ⌝ }
 {
     let a = spelled(t, i, b"if ");
     if a == 0 {
         return Place { at: 0, node: 0 };
     }
-    let p = expression(t, a, depth, nodes, f);
+    let p = expression(t, a, levels, places, nodes, f);
     if p.at == 0 {
         return Place { at: 0, node: 0 };
     }
@@ -222,7 +223,7 @@ fn if_form(t: &[u8], i: usize, depth: usize, nodes: &mut [u8], f: usize) -> Plac
     if b == 0 {
         return Place { at: 0, node: 0 };
     }
-    let q = expression(t, b, depth, nodes, p.node);
+    let q = expression(t, b, levels, places + 1, nodes, p.node);
     if q.at == 0 {
         return Place { at: 0, node: 0 };
     }
@@ -230,7 +231,7 @@ fn if_form(t: &[u8], i: usize, depth: usize, nodes: &mut [u8], f: usize) -> Plac
     if c == 0 {
         return Place { at: 0, node: 0 };
     }
-    let s = expression(t, c, depth, nodes, q.node);
+    let s = expression(t, c, levels, places + 1, nodes, q.node);
     if s.at == 0 {
         return Place { at: 0, node: 0 };
     }
@@ -242,15 +243,15 @@ fn if_form(t: &[u8], i: usize, depth: usize, nodes: &mut [u8], f: usize) -> Plac
 }
 
 // A while.
-fn while_form(t: &[u8], i: usize, depth: usize, nodes: &mut [u8], f: usize) -> Place
+fn while_form(t: &[u8], i: usize, levels: usize, places: usize, nodes: &mut [u8], f: usize) -> Place
     requires { ⌜ (i ≤ length (now t)) × (length (now nodes) ≤ 32768) × (getD (now t) i 256 ≡ 119) ⌝ }
-    ensures { λ r. ⌜ Reading (now (t .entry)) (now (nodes .entry)) f (p.formOf (length (now (nodes .entry)) / 8) (p.parse (length (now (nodes .entry)) / 8) depth) f (drop i (now (t .entry)))) (now (nodes .exit)) r ⌝ }
+    ensures { λ r. ⌜ Reading (now (t .entry)) (now (nodes .entry)) f (p.formOf (length (now (nodes .entry)) / 8) (p.parse (length (now (nodes .entry)) / 8) levels) places f (drop i (now (t .entry)))) (now (nodes .exit)) r ⌝ }
 {
     let a = spelled(t, i, b"while ");
     if a == 0 {
         return Place { at: 0, node: 0 };
     }
-    let p = expression(t, a, depth, nodes, f);
+    let p = expression(t, a, levels, places, nodes, f);
     if p.at == 0 {
         return Place { at: 0, node: 0 };
     }
@@ -258,7 +259,7 @@ fn while_form(t: &[u8], i: usize, depth: usize, nodes: &mut [u8], f: usize) -> P
     if b == 0 {
         return Place { at: 0, node: 0 };
     }
-    let q = expression(t, b, depth, nodes, p.node);
+    let q = expression(t, b, levels, places, nodes, p.node);
     if q.at == 0 {
         return Place { at: 0, node: 0 };
     }
@@ -270,9 +271,16 @@ fn while_form(t: &[u8], i: usize, depth: usize, nodes: &mut [u8], f: usize) -> P
 }
 
 // An assignment.
-fn assign_form(t: &[u8], i: usize, depth: usize, nodes: &mut [u8], f: usize) -> Place
+fn assign_form(
+    t: &[u8],
+    i: usize,
+    levels: usize,
+    places: usize,
+    nodes: &mut [u8],
+    f: usize,
+) -> Place
     requires { ⌜ (i ≤ length (now t)) × (length (now nodes) ≤ 32768) × (getD (now t) i 256 ≡ 108) ⌝ }
-    ensures { λ r. ⌜ Reading (now (t .entry)) (now (nodes .entry)) f (p.formOf (length (now (nodes .entry)) / 8) (p.parse (length (now (nodes .entry)) / 8) depth) f (drop i (now (t .entry)))) (now (nodes .exit)) r ⌝ }
+    ensures { λ r. ⌜ Reading (now (t .entry)) (now (nodes .entry)) f (p.formOf (length (now (nodes .entry)) / 8) (p.parse (length (now (nodes .entry)) / 8) levels) places f (drop i (now (t .entry)))) (now (nodes .exit)) r ⌝ }
 {
     let n = number_at(t, i + 1, 255);
     if n.at == 0 {
@@ -282,7 +290,7 @@ fn assign_form(t: &[u8], i: usize, depth: usize, nodes: &mut [u8], f: usize) -> 
     if a == 0 {
         return Place { at: 0, node: 0 };
     }
-    let p = expression(t, a, depth, nodes, f);
+    let p = expression(t, a, levels, places, nodes, f);
     if p.at == 0 {
         return Place { at: 0, node: 0 };
     }
@@ -293,12 +301,20 @@ fn assign_form(t: &[u8], i: usize, depth: usize, nodes: &mut [u8], f: usize) -> 
     put_node(nodes, p.node, 5, n.value, p.node - 1, 0, 0, e)
 }
 
-// A form with two sides, which no byte tells before the first is read.
-fn sides(t: &[u8], i: usize, depth: usize, nodes: &mut [u8], f: usize) -> Place
-    requires { ⌜ (i ≤ length (now t)) × (length (now nodes) ≤ 32768) × (getD (now t) i 256 ≡ 105 → ⊥) × (getD (now t) i 256 ≡ 119 → ⊥) × (getD (now t) i 256 ≡ 108 → ⊥) ⌝ }
-    ensures { λ r. ⌜ Reading (now (t .entry)) (now (nodes .entry)) f (p.formOf (length (now (nodes .entry)) / 8) (p.parse (length (now (nodes .entry)) / 8) depth) f (drop i (now (t .entry)))) (now (nodes .exit)) r ⌝ }
+// The places that a second side may have: one more in a sequence, which works it in its own place.
+fn besides(places: usize, kind: usize) -> usize
+    requires { ⌜ (places < 18446744073709551615) × (kind ≡ 4 → ⊥) ⌝ }
+    ensures { λ r. ⌜ r ≡ p.besides places kind ⌝ }
 {
-    let p = expression(t, i, depth, nodes, f);
+    if kind == 8 { places + 1 } else { places }
+}
+
+// A form with two sides, which no byte tells before the first is read.
+fn sides(t: &[u8], i: usize, levels: usize, places: usize, nodes: &mut [u8], f: usize) -> Place
+    requires { ⌜ (i ≤ length (now t)) × (length (now nodes) ≤ 32768) × (places < 18446744073709551615) × (getD (now t) i 256 ≡ 105 → ⊥) × (getD (now t) i 256 ≡ 119 → ⊥) × (getD (now t) i 256 ≡ 108 → ⊥) ⌝ }
+    ensures { λ r. ⌜ Reading (now (t .entry)) (now (nodes .entry)) f (p.formOf (length (now (nodes .entry)) / 8) (p.parse (length (now (nodes .entry)) / 8) levels) places f (drop i (now (t .entry)))) (now (nodes .exit)) r ⌝ }
+{
+    let p = expression(t, i, levels, places, nodes, f);
     if p.at == 0 {
         return Place { at: 0, node: 0 };
     }
@@ -306,7 +322,8 @@ fn sides(t: &[u8], i: usize, depth: usize, nodes: &mut [u8], f: usize) -> Place
     if j.at == 0 {
         return Place { at: 0, node: 0 };
     }
-    let q = expression(t, j.at, depth, nodes, p.node);
+    let k = besides(places, j.kind);
+    let q = expression(t, j.at, levels, k, nodes, p.node);
     if q.at == 0 {
         return Place { at: 0, node: 0 };
     }
@@ -317,26 +334,34 @@ fn sides(t: &[u8], i: usize, depth: usize, nodes: &mut [u8], f: usize) -> Place
     put_node(nodes, q.node, j.kind, 0, p.node - 1, q.node - 1, 0, e)
 }
 
-// The expression at i, with at most `depth` brackets inside one another, its nodes numbered from f on.
-pub fn expression(t: &[u8], i: usize, depth: usize, nodes: &mut [u8], f: usize) -> Place
+// The expression at i, its nodes numbered from f on, with at most `levels` brackets inside one another and at most `places` places, by the count
+// of 02's request 2.
+pub fn expression(
+    t: &[u8],
+    i: usize,
+    levels: usize,
+    places: usize,
+    nodes: &mut [u8],
+    f: usize,
+) -> Place
     requires { ⌜ (i ≤ length (now t)) × (length (now nodes) ≤ 32768) ⌝ }
-    ensures { λ r. ⌜ Reading (now (t .entry)) (now (nodes .entry)) f (p.parse (length (now (nodes .entry)) / 8) depth f (drop i (now (t .entry)))) (now (nodes .exit)) r ⌝ }
+    ensures { λ r. ⌜ Reading (now (t .entry)) (now (nodes .entry)) f (p.parse (length (now (nodes .entry)) / 8) levels places f (drop i (now (t .entry)))) (now (nodes .exit)) r ⌝ }
 {
     if peek(t, i) != 40 {
         return put_leaf(t, i, nodes, f);
     }
-    if depth == 0 {
+    if (levels == 0) | (places == 0) {
         return Place { at: 0, node: 0 };
     }
     let b = peek(t, i + 1);
     if b == 105 {
-        return if_form(t, i + 1, depth - 1, nodes, f);
+        return if_form(t, i + 1, levels - 1, places - 1, nodes, f);
     }
     if b == 119 {
-        return while_form(t, i + 1, depth - 1, nodes, f);
+        return while_form(t, i + 1, levels - 1, places - 1, nodes, f);
     }
     if b == 108 {
-        return assign_form(t, i + 1, depth - 1, nodes, f);
+        return assign_form(t, i + 1, levels - 1, places - 1, nodes, f);
     }
-    sides(t, i + 1, depth - 1, nodes, f)
+    sides(t, i + 1, levels - 1, places - 1, nodes, f)
 }

@@ -96,16 +96,16 @@ module _ (m : ℕ) (t room : List ℕ) where
         | no l ↦ (_, _, refused-room s q refl (omega arith))
       ]
 
-  unread : Bytes t → m ≤ 64 → ¬ ((p : Parsed) × (parse 4096 255 0 t ≡ some p) × (p .left ≡ [])) → Answered
+  unread : Bytes t → m ≤ 64 → ¬ ((p : Parsed) × (parse 4096 2175 256 0 t ≡ some p) × (p .left ≡ [])) → Answered
   unread b l n = let (r, f) = judged t b (unreadable t 4096 (λ e q few. few) n) in (_, _, refused-text l f)
 
-  by-parser : Bytes t → m ≤ 64 → (o : Option Parsed) → parse 4096 255 0 t ≡ o → Answered
+  by-parser : Bytes t → m ≤ 64 → (o : Option Parsed) → parse 4096 2175 256 0 t ≡ o → Answered
   by-parser b l none h = unread b l (λ (p, q, z). differ (sym h ∙ q))
   by-parser b l (some p) h = by-left (p .left) refl
     where
       by-left : (u : List ℕ) → p .left ≡ u → Answered
       by-left [] z =
-          let q : parse 4096 255 0 t ≡ some (parsed (p .expr) (p .node) []) = rw z at h in
+          let q : parse 4096 2175 256 0 t ≡ some (parsed (p .expr) (p .node) []) = rw z at h in
           let (s, x, g) = storable-of m 4096 t (p .expr) (p .node) l q (omega arith) in
           held s x
       by-left (c ∷ u) z = unread b l (λ (x, q, y). cons (sym z ∙ ap (λ (s : Parsed). s .left) (same (sym h ∙ q)) ∙ y))
@@ -116,6 +116,6 @@ module _ (m : ℕ) (t room : List ℕ) where
   pub every-reading : Bytes t → Answered
   every-reading b =
       elim (decLe m 64) [
-        | yes l ↦ by-parser b l (parse 4096 255 0 t) refl
+        | yes l ↦ by-parser b l (parse 4096 2175 256 0 t) refl
         | no l ↦ (_, _, refused-4 (omega arith))
       ]

@@ -7,7 +7,7 @@ use mathlib.Core.Bool.{Bool}
 use mathlib.Core.List.{List}
 use lib.ListN.{drop}
 use Rattle.l1.specs.Syntax.{Expr}
-use Rattle.l1.specs.Measures.{size, depth}
+use Rattle.l1.specs.Measures.{size, places}
 use Rattle.l1.specs.Text.{text}
 use Rattle.stored.specs.Stages as S
 use Rattle.stored.specs.Stages.{no-with, _when_, given, given-at, First}
@@ -52,10 +52,10 @@ module _ {t : List ℕ} (f : OfForm t) where
       pub first-5 : 4096 < size (f .expr) → First (of-text t) (S.no 5)
       first-5 l = first-now past-52 (given (f .expr, f .shown, l))
 
-      -- what no other refusal is given to and yet no routine can hold is too deep
-      deep : Unreadable t → size (f .expr) ≤ 4096 → 256 < depth (f .expr)
-      deep u few =
-          elim (decLt 256 (depth (f .expr))) [
+      -- what no other refusal is given to and yet no routine can hold has too many places
+      many : Unreadable t → size (f .expr) ≤ 4096 → 256 < places (f .expr)
+      many u few =
+          elim (decLt 256 (places (f .expr))) [
             | yes l ↦ l
             | no l ↦
                 absurd
@@ -67,4 +67,4 @@ module _ {t : List ℕ} (f : OfForm t) where
       pub first-9 : Unreadable t → ((e : Expr) → t ≡ text e → size e ≤ 4096) → First (of-text t) (S.no 9)
       first-9 u few =
           first-now (past-more past-52 (when-silent (λ (e, q, l). omega (arith, few e q))))
-          (given (f .expr, f .shown, deep u (few (f .expr) (f .shown))))
+          (given (f .expr, f .shown, many u (few (f .expr) (f .shown))))

@@ -10,13 +10,13 @@ use Rattle.text_form.specs.Reading.{Reads}
 use Rattle.text_form.proofs.OneReading.{reads-unique}
 use Rattle.reader.specs.Says.{unreadOf, takenOf}
 use Rattle.reader.specs.declared.Unread.{Unread}
-use Rattle.reader.specs.declared.Unread.the-variants.{Locations, NotOfForm, LargeInteger, LargeLocation, Nodes, Depth, Room}
+use Rattle.reader.specs.declared.Unread.the-variants.{Locations, NotOfForm, LargeInteger, LargeLocation, Nodes, Places, Room}
 use Rattle.reader.specs.declared.Taken.{Taken}
 use Rattle.reader.specs.declared.Taken.the-variants.{Refused, Routine}
 
 -- the refusal of a number; of a number that none has, the last
 back : S.Refusal → Unread
-back (no c) = cond (eqb c 4) Locations (cond (eqb c 5) Nodes Depth)
+back (no c) = cond (eqb c 4) Locations (cond (eqb c 5) Nodes Places)
 back (no-with c i) = cond (eqb c 50) (NotOfForm i) (cond (eqb c 51) (LargeInteger i) (cond (eqb c 52) (LargeLocation i) (Room i)))
 
 back-again : (r : Unread) → back (unreadOf r) ≡ r
@@ -26,7 +26,7 @@ back-again (NotOfForm i) = refl
 back-again (LargeInteger i) = refl
 back-again (LargeLocation i) = refl
 back-again Nodes = refl
-back-again Depth = refl
+back-again Places = refl
 back-again (Room n) = refl
 
 pub unread-unique : {r r′ : Unread} → unreadOf r ≡ unreadOf r′ → r ≡ r′

@@ -80,7 +80,7 @@ differ e = let z : _≡_ {A = ℕ} 0 1 = cc in omega arith
 pub same : {x y : Parsed} → some x ≡ some y → x ≡ y
 same e = cc
 
-module _ {t nodes nodes′ : List ℕ} {p : Place} (r : Reading t nodes 0 (parse (length nodes / 8) 255 0 t) nodes′ p) where
+module _ {t nodes nodes′ : List ℕ} {p : Place} (r : Reading t nodes 0 (parse (length nodes / 8) 2175 256 0 t) nodes′ p) where
   -- what the descent has read to the end of the text
   pub whole : {m : ℕ} → m ≤ 64 → length nodes ≤ 32768 → ¬ (p .at ≡ 0) → p .at ≡ length t → Whole m t nodes′ (p .node)
   whole {m} l few z h =

@@ -20,6 +20,13 @@ ghost use Rattle.reader.specs.Enough.{Enough};
 use form::Verdict;
 use text_limits::Found;
 
+// Refusal 9's limit.
+const PLACES: usize = 256;
+
+// How many brackets may stand inside one another. Twice the depth of a tree is at most its places and its nodes and 1 (`depth-by-places` in l1): one with
+// 256 places and 4,096 nodes is at most 2,176 deep, and its innermost expression has no bracket.
+const LEVELS: usize = 2175;
+
 // Why a text is not read: a case for each of request 1's numbers, with what the number also returns.
 pub enum Unread {
     Locations,
@@ -27,7 +34,7 @@ pub enum Unread {
     LargeInteger(u64),
     LargeLocation(u64),
     Nodes,
-    Depth,
+    Places,
     Room(u64),
 }
 
@@ -47,7 +54,7 @@ pub fn number_of(r: Unread) -> u64
         Unread::LargeInteger(_) => 51,
         Unread::LargeLocation(_) => 52,
         Unread::Nodes => 5,
-        Unread::Depth => 9,
+        Unread::Places => 9,
         Unread::Room(_) => 53,
     }
 }
@@ -62,12 +69,12 @@ pub fn returned_by(r: Unread) -> u64
         Unread::LargeInteger(i) => i,
         Unread::LargeLocation(i) => i,
         Unread::Nodes => 0,
-        Unread::Depth => 0,
+        Unread::Places => 0,
         Unread::Room(n) => n,
     }
 }
 
-// 52, 5 and 9. A text that was not read, and to which none of the others is given, is too deep.
+// 52, 5 and 9. A text that was not read, and to which none of the others is given, has too many places.
 fn judge_locations(t: &[u8]) -> Unread
     requires { ⌜ Unreadable (now t) × OfForm (now t) × NoLargeInteger (now t) ⌝ }
     ensures { λ r. ⌜ First (of-text (now (t .entry))) (unreadOf r) ⌝ }
@@ -78,7 +85,7 @@ fn judge_locations(t: &[u8]) -> Unread
             if 4096 < text_limits::nodes_of(t) {
                 Unread::Nodes
             } else {
-                Unread::Depth
+                Unread::Places
             }
         }
     }
@@ -126,7 +133,7 @@ fn read_with(t: &[u8], m: usize, nodes: &mut [u8], room: &mut [u8]) -> Taken
     requires { ⌜ (m ≤ 64) × (length (now nodes) ≤ 32768) × Enough (now t) (length (now nodes) / 8) ⌝ }
     ensures { λ r. ⌜ Reads m (now (t .entry)) (now (room .entry)) (takenOf r) (now (room .exit)) ⌝ }
 {
-    let p = descent::expression(t, 0, 255, nodes, 0);
+    let p = descent::expression(t, 0, LEVELS, PLACES, nodes, 0);
     if p.at == 0 {
         return Taken::Refused(judge(t));
     }

@@ -6,7 +6,7 @@ use Rattle.stored.specs.Stages.{number}
 use Rattle.routine.specs.Says.{returned}
 use Rattle.reader.specs.Says.{unreadOf}
 use Rattle.reader.specs.declared.Unread.{Unread}
-use Rattle.reader.specs.declared.Unread.the-variants.{Locations, NotOfForm, LargeInteger, LargeLocation, Nodes, Depth, Room}
+use Rattle.reader.specs.declared.Unread.the-variants.{Locations, NotOfForm, LargeInteger, LargeLocation, Nodes, Places, Room}
 use Rattle.refused_line.specs.Refused.{refusalBy}
 use Rattle.unread_line.proofs.put_unread.Statement.{statement}
 use Rattle.unread_line.proofs.put_unread.Tie as tie
@@ -17,7 +17,7 @@ by-parts (NotOfForm i) = refl
 by-parts (LargeInteger i) = refl
 by-parts (LargeLocation i) = refl
 by-parts Nodes = refl
-by-parts Depth = refl
+by-parts Places = refl
 by-parts (Room n) = refl
 
 returns : tie.Need-returns
