@@ -9,8 +9,8 @@
  * is not null. What is lent to a call does not overlap, and until the call returns nobody else writes it, or reads what the call may write.
  *
  * The functions keep no state and take no memory but stack: any number of threads may call them, each with lent memory of its own. The check and the run
- * need at most 32 KB of stack, the text and rigvanesh_write 80 KB and rigvanesh_read 112 KB (counted in the compiled archives; it is not proved). A run
- * makes as many steps as its fuel allows and can't be interrupted.
+ * need at most 32 KB of stack (KB: 1,024 bytes), the text and rigvanesh_write 416 KB and rigvanesh_read 496 KB (measured on the compiled archives at the
+ * deepest tree that a routine can hold, for the text at 2,048 levels and counted from there; it is not proved). A run makes as many steps as its fuel allows and can't be interrupted.
  */
 #ifndef RIGVANESH_H
 #define RIGVANESH_H
@@ -39,7 +39,7 @@ enum rigvanesh_number {
     RIGVANESH_LENGTH = 6,      /* bytes 0-1 are not 4 + 8n */
     RIGVANESH_LAYOUT = 7,      /* a node breaks the layout; also: the lowest such node */
     RIGVANESH_FOREST = 8,      /* the root's subtree has fewer than n nodes */
-    RIGVANESH_DEPTH = 9,       /* the root's depth is over 256 */
+    RIGVANESH_PLACES = 9,      /* the root's count of places is over 256 (docs/ROWS.md) */
     RIGVANESH_UNDECLARED = 20, /* an undeclared location; also: the node */
     RIGVANESH_FIRST = 21,      /* the first child has a type that its rule doesn't allow; also: the node */
     RIGVANESH_SECOND = 22,     /* the second child likewise (+, >=, while); also: the node */
