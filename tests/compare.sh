@@ -1,8 +1,8 @@
 #!/bin/sh
 # Holds the program `rows` against the reference: rows of every kind, good, ill typed, damaged and at the limits, checked and run, and every tenth thousand shown and
-# traced as well; texts of every kind, good, spoilt and at the limits, read and stored, and long ones told by their parts; rows of every kind, written; named texts against
-# their lines, worked out by hand; records that are not answered; a file that is cut at each of its bytes; an input that can't be read. The program `trace`: each named row
-# as its input, inputs about the limit of what it reads, and one that can't be read. And the programs `store` and `show`: named texts with and without a line end, named
+# traced as well; texts of every kind, good, spoilt and at the limits, read and stored, and long ones told by their parts; rows of every kind, written; named texts, and named
+# rows that are deep, against their lines, worked out by hand; those rows with every question; records that are not answered; a file that is cut at each of its bytes; an input that can't be read. The program `trace`: each named row
+# as its input, deep ones too, inputs about the limit of what it reads, and one that can't be read. And the programs `store` and `show`: named texts with and without a line end, named
 # rows, the samples with their words and what `trace` makes of them, texts about the longest that is taken, and wrong words.
 # Prints the number of rows and of texts and how many lines differ, and fails where one does.
 #
@@ -73,6 +73,17 @@ done
 $RUN "$program" <"$work/rows" >"$work/found" || echo "did not come to its end" >>"$work/found"
 count named-texts
 
+"$work/reference" deepruns >"$work/rows"
+"$work/reference" deeplines >"$work/expected"
+$RUN "$program" <"$work/rows" >"$work/found" || echo "did not come to its end" >>"$work/found"
+count deep-runs
+for question in c r x t s w; do
+    "$work/reference" deep "$question" >"$work/rows"
+    compare "deep-$question"
+done
+rows=$((rows + $("$work/reference" deepnames | wc -l)))
+texts=$((texts + $("$work/reference" deeplines | wc -l)))
+
 "$work/reference" faults >"$work/rows"
 compare faults
 
@@ -92,10 +103,18 @@ trace() {
 }
 
 "$work/reference" cases c >"$work/cases"
-case=0
-while [ "$case" -lt "$("$work/reference" names | wc -l)" ]; do
+named=$("$work/reference" names | wc -l) case=0
+while [ "$case" -lt "$named" ]; do
     "$work/reference" traceinput "$case" <"$work/cases" >"$work/rows"
     trace "$case"
+    case=$((case + 1))
+done
+
+"$work/reference" deeptraces >"$work/deep"
+named=$("$work/reference" deeplines | wc -l) case=0
+while [ "$case" -lt "$named" ]; do
+    "$work/reference" traceinput "$case" <"$work/deep" >"$work/rows"
+    trace "deep-$case"
     case=$((case + 1))
 done
 
@@ -125,10 +144,12 @@ program() {
     [ "$differ" -eq "$before" ] || echo "    $name $*" >&2
 }
 
+mkdir -p "$work/inputs"
 "$work/reference" runs >"$work/runs"
+"$work/reference" runinputs "$work/inputs"
 run=0
 while read -r words; do
-    "$work/reference" runinput "$run" >"$work/rows"
+    cp "$work/inputs/$run" "$work/rows"
     program $words
     run=$((run + 1))
 done <"$work/runs"

@@ -1,5 +1,5 @@
 #!/bin/sh
-# Holds the exported functions, called from C, against the reference: the named rows, and rows of every kind, good, ill typed, damaged and at the limits, each checked, run
+# Holds the exported functions, called from C, against the reference: the named rows, deep ones with fuels about their start and their end among them, and rows of every kind, good, ill typed, damaged and at the limits, each checked, run
 # and shown; the named texts, and texts of every kind, good, spoilt and at the limits, stored; and rows of every kind, written. Prints the number of rows and of texts and how many
 # lines differ, and fails where one does; a call that changed what it may not makes its line differ (tests/c/rows.c).
 #
@@ -36,8 +36,10 @@ compare() {
 
 "$work/reference" cases crxsw >"$work/rows.in"
 compare cases
-rows=$((rows + $("$work/reference" names | wc -l) + $("$work/reference" lines w | wc -l)))
-texts=$((texts + $("$work/reference" lines s | wc -l)))
+"$work/reference" deep crxsw >"$work/rows.in"
+compare deep
+rows=$((rows + $("$work/reference" names | wc -l) + $("$work/reference" lines w | wc -l) + $("$work/reference" deepnames | wc -l)))
+texts=$((texts + $("$work/reference" lines s | wc -l) + $("$work/reference" deeplines | wc -l)))
 
 done=0
 while [ "$done" -lt "$each" ]; do

@@ -3,6 +3,7 @@
 use crate::build::*;
 use crate::expr::Tree;
 use crate::inputs::inputs;
+use crate::nests::{list, sums_left, sums_right};
 use crate::routine::{store_nodes, store_routine, with_header};
 use crate::rows::Row;
 
@@ -68,7 +69,7 @@ fn mistakes() -> Vec<Case> {
     ]
 }
 
-/// n nodes: assignments in a balanced sequence, so that the depth is small.
+/// n nodes: assignments in a balanced sequence.
 pub fn wide(n: usize) -> Tree {
     match n {
         1 => skip(),
@@ -78,14 +79,6 @@ pub fn wide(n: usize) -> Tree {
             seq(wide(left), wide(n - 1 - left))
         }
     }
-}
-
-pub fn left_deep(depth: usize) -> Tree {
-    (1..depth).fold(int(1), |e, _| plus(e, int(0)))
-}
-
-pub fn right_deep(depth: usize) -> Tree {
-    (1..depth).fold(int(1), |e, _| plus(int(0), e))
 }
 
 fn limits() -> Vec<Case> {
@@ -103,12 +96,13 @@ fn limits() -> Vec<Case> {
         tree_case("n 1", 0, skip()),
         tree_case("n 4096", 1, wide(4096)),
         tree_case("n 4097", 1, wide(4097)),
-        tree_case("depth 256, left", 0, left_deep(256)),
-        tree_case("depth 257, left", 0, left_deep(257)),
-        tree_case("depth 256, right", 0, right_deep(256)),
-        tree_case("depth 257, right", 0, right_deep(257)),
         case("two trees", forest(&[skip(), skip()]), 100, vec![0]),
-        case("two trees, one too deep", forest(&[skip(), left_deep(257)]), 100, vec![0]),
+        case("count 256, left", store_routine(1, &sums_left(256, deref(0))), 3, vec![7]),
+        case("count 257, left", store_routine(1, &sums_left(257, deref(0))), 3, vec![7]),
+        case("count 256, right", store_routine(1, &sums_right(256, deref(0))), 3, vec![7]),
+        case("count 257, right", store_routine(1, &sums_right(257, deref(0))), 3, vec![7]),
+        case("300 assignments joined to the right", store_routine(3, &list(300)), 1, vec![0; 3]),
+        case("two trees, one of count 257", forest(&[skip(), sums_left(257, int(1))]), 100, vec![0]),
         case("a store one short", store_routine(2, &assign(1, int(1))), 100, vec![4]),
         case("a store just long enough", store_routine(2, &assign(1, int(1))), 100, vec![4, 5]),
         case("a store longer than m declares nothing", store_routine(1, &assign(1, int(1))), 100, vec![4, 5]),

@@ -1,5 +1,6 @@
-//! KIND edges: texts at the limits of what is read: depth, nodes, m, and nests of thousands.
+//! KIND edges: texts at the limits of what is read: the count, nodes, m, and nests of thousands.
 
+use crate::chains::chain_tree;
 use crate::expr::{size, text, Tree};
 use crate::good::an_m;
 use crate::limits::{nodes_exactly, nested};
@@ -21,12 +22,10 @@ fn of_tree(random: &mut Random, tree: &Tree, m: usize) -> Row {
     asked(random, text(tree).into_bytes(), m, 6 + 8 * size(tree))
 }
 
-/// Depths 255 to 258, nested in one way or in many.
+/// Counts 254 to 258, nested in one way or in many.
 fn deep(random: &mut Random) -> Row {
-    let depth = random.pick(&[100, 254, 255, 255, 256, 256, 256, 257, 257, 258, 300, 700]);
-    let ways = random.below(8);
-    let tree = nested(random, depth, ways);
     let m = random.below(3);
+    let tree = if random.percent(50) { chain_tree(random, m) } else { nested(random) };
     of_tree(random, &tree, m)
 }
 
@@ -51,7 +50,7 @@ fn locations_at_limit(random: &mut Random) -> Row {
 
 /// Thousands of openings, mostly closed, with a fault or none.
 fn nest(random: &mut Random) -> Row {
-    let depth = random.pick(&[1000, 2000, 4095, 4096, 4097, 8000]);
+    let depth = random.pick(&[255, 256, 257, 1000, 1365, 1366, 2000, 2047, 2048, 4095, 4096, 4097, 8000]);
     let (open, close) = random.pick(&[
         ("(", " + 1)"),
         ("(", " ; 1)"),
@@ -64,6 +63,10 @@ fn nest(random: &mut Random) -> Row {
         ("(if 1 then ", " else 0)"),
         ("(while ", " do 1 done)"),
         ("(while 1 do ", " done)"),
+        ("(skip ; ", ")"),
+        ("(1 ; ", ")"),
+        ("(if 1 then 0 else ", ")"),
+        ("(if 1 then ", " else 0)"),
     ]);
     let inner = random.pick(&["1", "skip", "2147483648", "!l256", "", "("]);
     let closed = random.pick(&[0, 1, depth - 1, depth, depth, depth, depth + 1]);
@@ -77,7 +80,8 @@ fn several_faults(random: &mut Random) -> Row {
     for _ in 0..1 + random.below(4) {
         parts.push(random.pick(&["2147483648", "-2147483649", "!l256", "!l1000", "(l300 := 1)", "7", "(l255 := 2147483647)"]));
     }
-    let deep = ["(l0 := ".repeat(256), "1".to_string(), ")".repeat(256)].concat();
+    let count = random.pick(&[255, 256, 257]);
+    let deep = ["(l0 := ".repeat(count), "1".to_string(), ")".repeat(count)].concat();
     let wide = ["((1 + 1) ; ".repeat(100), "1".to_string(), ")".repeat(100)].concat();
     if random.percent(30) {
         parts.push(&deep);

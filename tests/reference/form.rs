@@ -25,11 +25,11 @@ pub enum Kind<'a> {
     While,
 }
 
-/// A node with the places of its children, and how deep its tree is.
+/// A node with the places of its children, and its count by 02's request 2.
 pub struct Node<'a> {
     pub kind: Kind<'a>,
     pub children: Vec<usize>,
-    pub depth: usize,
+    pub count: usize,
 }
 
 /// A text of the form: its nodes in post-order, and its integers and locations in the order in which they stand.
@@ -201,8 +201,18 @@ impl<'a> Reader<'a> {
     /// The node over the last so many roots.
     fn node(&mut self, kind: Kind<'a>, count: usize) {
         let children = self.roots.split_off(self.roots.len() - count);
-        let deepest = children.iter().map(|&c| self.formed.nodes[c].depth).max().unwrap_or(0);
+        let counts: Vec<usize> = children.iter().map(|&c| self.formed.nodes[c].count).collect();
         self.roots.push(self.formed.nodes.len());
-        self.formed.nodes.push(Node { kind, children, depth: 1 + deepest });
+        self.formed.nodes.push(Node { kind, children, count: counted(kind, &counts) });
+    }
+}
+
+/// The count of a node whose children have these counts.
+fn counted(kind: Kind, counts: &[usize]) -> usize {
+    match (kind, counts) {
+        (Kind::If, [test, second, third]) => *[test + 1, *second, *third].iter().max().unwrap(),
+        (Kind::Seq, [first, second]) => *[first + 1, *second].iter().max().unwrap(),
+        // an operator, an assignment, a while: all their parts; the others have none
+        (_, parts) => parts.iter().max().map_or(0, |most| most + 1),
     }
 }

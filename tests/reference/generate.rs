@@ -1,5 +1,6 @@
 //! `generate`: rows files from a seed, and the stores and fuels of the rows.
 
+use crate::chains::chain_row;
 use crate::damaged::damaged_row;
 use crate::edges::edges_row;
 use crate::good::good_row;
@@ -33,12 +34,13 @@ pub fn a_row(kind: &str, random: &mut Random) -> Row {
         "edges" => edges_row(random),
         "nested" => nested_row(random),
         "written" => written_row(random),
+        "chains" => chain_row(random),
         "mixed" => {
             let one = random.pick(&["good", "good", "good", "illtyped", "damaged", "limits"]);
             a_row(one, random)
         }
         _ => {
-            eprintln!("kinds: good, illtyped, damaged, limits, mixed; texts, spoilt, edges for s; nested for n; written for w");
+            eprintln!("kinds: good, illtyped, damaged, limits, chains, mixed; texts, spoilt, edges for s; nested for n; written for w");
             std::process::exit(2)
         }
     }
@@ -78,10 +80,12 @@ pub fn a_fuel(random: &mut Random, bytes: &[u8], store: &[i32]) -> u32 {
     if random.percent(30) {
         return a_plain_fuel(random);
     }
-    let taken = steps_taken(bytes, store, 1000);
-    if taken < 1000 && random.percent(40) {
+    // a long list takes thousands of steps and ends
+    let most = if bytes.len() > 4000 { 3000 } else { 1000 };
+    let taken = steps_taken(bytes, store, most);
+    if taken < most && random.percent(40) {
         random.pick(&[u32::MAX, 4294967294, 2147483648, 100_000, 65_536])
-    } else if taken < 1000 {
+    } else if taken < most {
         (taken + random.below(5) as u32).saturating_sub(2)
     } else if bytes.len() < 500 && random.below(200) == 0 {
         random.below(100_000) as u32

@@ -1,7 +1,8 @@
 //! KIND good: well typed random trees of all forms.
 
 use crate::build::*;
-use crate::expr::{depth, Tree};
+use crate::chains::accepted_chain;
+use crate::expr::{count, size, Tree};
 use crate::generate::{a_fuel, a_store};
 use crate::random::Random;
 use crate::routine::store_routine;
@@ -189,7 +190,7 @@ impl Maker<'_> {
     }
 
     /// As `location`, but one that a loop counts on only now and then.
-    fn location_to_write(&mut self) -> u8 {
+    pub fn location_to_write(&mut self) -> u8 {
         let l = self.location();
         if self.counters.contains(&l) && !self.random.percent(5) {
             return self.location();
@@ -218,14 +219,17 @@ pub fn a_room(random: &mut Random) -> usize {
     }
 }
 
-/// A well typed tree that the reader accepts.
+/// A well typed tree that the reader accepts; now and then a long chain.
 pub fn good_tree(random: &mut Random, m: usize) -> Tree {
+    if random.percent(3) {
+        return accepted_chain(random, m, 0);
+    }
     loop {
         let room = a_room(random);
         let mut maker = Maker::new(random, m, 0);
         let t = if maker.random.percent(50) { Type::Unit } else { maker.any_type() };
         let tree = maker.tree(t, room);
-        if depth(&tree) <= 256 && crate::expr::size(&tree) <= 4096 {
+        if count(&tree) <= 256 && size(&tree) <= 4096 {
             return tree;
         }
     }

@@ -1,7 +1,8 @@
 //! KIND illtyped: sound layouts that the check refuses by 20 to 23.
 
 use crate::build::*;
-use crate::expr::{children, depth, node, size, Expr, Form, Tree};
+use crate::chains::accepted_chain;
+use crate::expr::{children, count, node, size, Expr, Form, Tree};
 use crate::generate::{a_plain_fuel, a_store_of_any_length};
 use crate::good::{a_room, an_m, good_tree, Maker};
 use crate::random::Random;
@@ -23,14 +24,18 @@ fn illtyped_tree(random: &mut Random, m: usize) -> Tree {
             1 => course_mistake(random, m),
             _ => tree_with_mistakes(random, m),
         };
-        if type_of(&tree, m).is_err() && depth(&tree) <= 256 && size(&tree) <= 4096 {
+        if type_of(&tree, m).is_err() && count(&tree) <= 256 && size(&tree) <= 4096 {
             return tree;
         }
     }
 }
 
-/// A random tree in which any child may be of a wrong type.
+/// A random tree in which any child may be of a wrong type; now and then a long chain, mostly with few slips, so that the first is not at its very beginning.
 fn tree_with_slips(random: &mut Random, m: usize) -> Tree {
+    if random.percent(8) {
+        let slips = random.pick(&[1, 1, 1, 5, 100]);
+        return accepted_chain(random, m, slips);
+    }
     let slips = random.pick(&[2, 5, 10, 30]);
     let room = a_room(random);
     let mut maker = Maker::new(random, m, slips);

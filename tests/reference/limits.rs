@@ -1,10 +1,12 @@
-//! KIND limits: both sides of every limit of 01, and several faults in one row.
+//! KIND limits: both sides of every limit, and several faults in one row.
 
 use crate::build::*;
-use crate::expr::Tree;
+use crate::chains::chain_row;
+use crate::expr::{size, Tree};
 use crate::generate::{a_fuel, a_plain_fuel, a_store, a_store_of_any_length, entries, steps_taken};
 use crate::good::{an_m, good_tree, Maker};
 use crate::illtyped::course_mistake;
+use crate::nests::*;
 use crate::random::Random;
 use crate::routine::{store_nodes, store_routine, with_header};
 use crate::rows::Row;
@@ -113,47 +115,32 @@ fn balanced(random: &mut Random, n: usize) -> Tree {
     plus(e1, e2)
 }
 
-/// Depths 255 to 257 and others, nested in one way or in many.
+/// Counts 255 to 257 and others, nested in one way or in many.
 fn deep(random: &mut Random) -> Row {
-    let depth = random.pick(&[100, 255, 256, 256, 256, 257, 257, 258, 300, 700]);
-    let ways = random.below(8);
-    let tree = if random.percent(5) { assignments(random) } else { nested(random, depth, ways) };
+    if random.percent(50) {
+        return chain_row(random);
+    }
+    let tree = if random.percent(5) { assignments(random.pick(&[1, 255, 256, 257, 1000, 4095])) } else { nested(random) };
     let mut row = row_of(random, 1, &tree);
     row.fuel = row.fuel.min(random.pick(&[0, 3, 100, 600]));
     row
 }
 
-/// The deepest layouts there are: each node the only child of the next.
-fn assignments(random: &mut Random) -> Tree {
-    let depth = random.pick(&[2, 256, 257, 1000, 4096]);
-    (1..depth).fold(int(1), |e, _| assign(0, e))
-}
-
-/// A tree of this depth: each turn puts one form around it.
-pub fn nested(random: &mut Random, depth: usize, ways: usize) -> Tree {
-    let t = if ways % 2 == 0 { Type::Int } else { Type::Unit };
-    let mut tree = if t == Type::Int { deref(0) } else { skip() };
-    for _ in 1..depth {
-        let way = if ways < 6 { ways / 2 } else { random.below(5) };
-        tree = wrapped(random, t, way, tree);
+/// A tree nested in one way: of a count about the limit, by a form that counts, or as deep as thousands by one that doesn't, around a tree of another count.
+pub fn nested(random: &mut Random) -> Tree {
+    let count = random.pick(&[100, 254, 255, 255, 256, 256, 256, 257, 257, 258, 300, 700]);
+    let mut trees = by_each_form(count);
+    let (_, tree) = trees.swap_remove(random.below(trees.len()));
+    let around = random.pick(&[0, 0, 1, 2, 300, 1000, 1500, 1800]);
+    // a record has room for 8,191 nodes
+    if size(&tree) + 3 * around > 8000 {
+        return tree;
     }
-    tree
-}
-
-/// The tree in one more form of the same type: first part, last part, or others.
-fn wrapped(random: &mut Random, t: Type, way: usize, e: Tree) -> Tree {
-    let b = boolean(random.percent(50));
-    match (t, way) {
-        (Type::Int, 0) => plus(e, int(random.between(-1, 1) as i32)),
-        (Type::Int, 1) => plus(int(random.between(-1, 1) as i32), e),
-        (Type::Int, 2) => iff(b, e, deref(0)),
-        (Type::Int, 3) => iff(b, deref(0), e),
-        (Type::Int, _) => seq(skip(), e),
-        (_, 0) => seq(e, skip()),
-        (_, 1) => seq(skip(), e),
-        (_, 2) => whilst(boolean(true), e),
-        (_, 3) => iff(b, e, skip()),
-        _ => iff(b, skip(), e),
+    match random.below(4) {
+        0 => skips(around, tree),
+        1 => thirds(around, tree),
+        2 => seconds(around, tree),
+        _ => tree,
     }
 }
 
@@ -216,17 +203,21 @@ fn literals(random: &mut Random) -> Row {
     row
 }
 
-/// Many assignments one after another, nested to the left or to the right.
+/// Many assignments one after another, nested to the left or to the right: to the left each counts, to the right none.
 fn long_straight(random: &mut Random) -> Row {
-    let count = random.pick(&[10, 40, 100, 253, 254, 255]);
     let left = random.percent(50);
+    let count = if left { random.pick(&[10, 40, 100, 254, 255, 256, 256, 257, 300]) } else { random.pick(&[10, 40, 256, 257, 300, 700, 1364, 1365, 1366]) };
     let mut tree = skip();
     for _ in 0..count {
         let l = random.below(3) as u8;
         let next = assign(l, if random.percent(50) { deref(0) } else { int(random.integer()) });
         tree = if left { seq(tree, next) } else { seq(next, tree) };
     }
-    row_of(random, 3, &tree)
+    let mut row = row_of(random, 3, &tree);
+    if random.percent(50) {
+        row.fuel = (2 * count + random.below(3)) as u32;
+    }
+    row
 }
 
 /// Header fields wrong one by one and together.
@@ -260,7 +251,7 @@ fn header_fault(random: &mut Random, bytes: &mut Vec<u8>) {
 /// Faults of different parts in one row: 8 and 9, 7 and 8, 9 and 20 to 23, 20 to 23 and 30.
 fn faults_of_several_parts(random: &mut Random) -> Row {
     let m = random.below(3);
-    let deep = nested(random, 260, 1);
+    let deep = if random.percent(50) { firsts(260) } else { skips(100, assignments(260)) };
     let mistake = course_mistake(random, m);
     let bytes = match random.below(6) {
         0 => forest(m, &[&skip(), &deep]),
@@ -311,13 +302,15 @@ fn countdown(random: &mut Random) -> Tree {
 
 /// Loops in loops: each loop under way adds a copy of its body to the text.
 fn nested_loops(random: &mut Random) -> Row {
-    let depth = random.pick(&[3, 10, 40, 120, 253]);
+    // with 254 of them the count is 256
+    let loops: u32 = random.pick(&[3, 10, 40, 120, 253, 254, 255]);
     let mut tree = assign(0, plus(deref(0), int(1)));
-    for _ in 0..depth {
+    for _ in 0..loops {
         tree = whilst(geq(deref(0), int(random.between(-3, 3) as i32)), tree);
     }
     let mut row = row_of(random, 1, &tree);
-    row.fuel = random.pick(&[1, 10, 100, 500, 1000]);
+    // the innermost is entered after 4 steps for each
+    row.fuel = random.pick(&[1, 10, 100, 500, 1000, 4 * loops, 4 * loops + 3]);
     row.store[0] = random.integer();
     row
 }

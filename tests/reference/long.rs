@@ -1,6 +1,7 @@
 //! The question `n`: a text that no record has room for, told by its parts; named ones with their lines, worked out by hand; and KIND nested.
 
 use crate::build::*;
+use crate::nests::*;
 use crate::random::Random;
 use crate::rows::Row;
 use crate::textcases::{tree_line, TextCase};
@@ -81,22 +82,50 @@ fn nests() -> Vec<TextCase> {
     ]
 }
 
-/// Depth, nodes and m, both sides, and short texts that are stored.
+/// The count, nodes and m, both sides, and short texts that are stored.
 fn limits() -> Vec<TextCase> {
-    let sums = (0..100).fold(int(1), |e, _| plus(e, int(1)));
-    let chain = (0..255).fold(int(1), |e, _| assign(0, e));
+    let sums = sums_left(100, int(1));
     vec![
         long(0, 100, "(\01\0 + 1)", &tree_line(0, &sums)),
         long(64, 100, "(\01\0 + 1)", &tree_line(64, &sums)),
         long(65, 100, "(\01\0 + 1)", "refused 4"),
         long(65, 100_000, "(", "refused 4"),
         long(1000, 1_000_000, "1", "refused 4"),
-        long(1, 255, "(l0 := \01\0)", &tree_line(1, &chain)),
-        long(1, 256, "(l0 := \01\0)", "refused 9"),
-        long(1, 255, "(l0 := \0(l0 := 1)\0)", "refused 9"),
-        long(1, 255, "(l0 := \01\0)\0)", "refused 50 at 2041"),
+        long(1, 256, "(l0 := \01\0)", &tree_line(1, &assignments(256))),
+        long(1, 257, "(l0 := \01\0)", "refused 9"),
+        long(1, 256, "(l0 := \0(l0 := 1)\0)", "refused 9"),
+        long(1, 256, "(l0 := \01\0)\0)", "refused 50 at 2049"),
+        long(0, 256, "(\01\0 + 1)", &tree_line(0, &sums_left(256, int(1)))),
+        long(0, 257, "(\01\0 + 1)", "refused 9"),
+        long(0, 257, "(1 >= \01\0)", "refused 9"),
+        long(0, 257, "(\0skip\0 ; skip)", "refused 9"),
+        long(0, 257, "(if \0true\0 then 1 else 0)", "refused 9"),
+        long(0, 257, "(while \0true\0 do skip done)", "refused 9"),
+        long(0, 257, "(while true do \0skip\0 done)", "refused 9"),
         long(1, 4095, "(l0 := \01\0)", "refused 9"),
         long(1, 4096, "(l0 := \01\0)", "refused 5"),
+    ]
+}
+
+/// Second parts and branches, which don't count: as many as there are nodes, and one more.
+fn free() -> Vec<TextCase> {
+    // 257 assignments are 258 nodes; behind 1,919 skips they are 4,096
+    let behind_skips = ["(skip ; \0", &"(l0 := ".repeat(257), "1", &")".repeat(257), "\0)"].concat();
+    vec![
+        long(1, 300, &behind_skips, "refused 9"),
+        long(1, 1919, &behind_skips, "refused 9"),
+        long(1, 1920, &behind_skips, "refused 5"),
+        long(0, 2047, "(skip ; \0skip\0)", &tree_line(0, &skips(2047, skip()))),
+        long(0, 2048, "(skip ; \0skip\0)", "refused 5"),
+        long(0, 1366, "(if true then 1 else \01\0)", "refused 5"),
+        long(0, 1366, "(if true then \01\0 else 1)", "refused 5"),
+        // 1,365 before one more: 4,097 nodes
+        long(1, 1365, "((l0 := 1) ; \0(l0 := 1)\0)", "refused 5"),
+        long(0, 2047, "(skip ; \02147483648\0)", "refused 51 at 16376"),
+        long(0, 2047, "(skip ; \0!l256\0)", "refused 52 at 16378"),
+        long(0, 1000, "(skip ; \0(l0 := 1\0)", "refused 50 at 9008"),
+        long(0, 1000, "(skip ; \0skip\0)\0)", "refused 50 at 9004"),
+        long(0, 100_000, "(skip ; \0skip\0)", "refused 5"),
     ]
 }
 
@@ -148,6 +177,7 @@ pub fn long_cases() -> Vec<TextCase> {
     let mut all = digits();
     all.extend(nests());
     all.extend(limits());
+    all.extend(free());
     all.extend(parts());
     all.extend(lengths());
     all
@@ -169,6 +199,10 @@ pub fn nested_row(random: &mut Random) -> Row {
         ("(if 1 then 0 else ", ")"),
         ("(while ", " do 1 done)"),
         ("(while !l0 do ", " done)"),
+        ("(skip ; ", ")"),
+        ("(l1 := 2 ; ", ")"),
+        ("((l1 := 2) ; ", ")"),
+        ("(if true then ", " else skip)"),
         ("(", ""),
         ("", "7"),
         ("3", ""),
@@ -177,7 +211,7 @@ pub fn nested_row(random: &mut Random) -> Row {
     let behind = random.pick(&["", "", "", "", "", "", "", "", " + 1", ")", " ", " := 1)", "\0"]);
     let k = match random.below(6) {
         0 => random.below(12),
-        1 => random.pick(&[100, 253, 254, 255, 256, 257, 2047, 2048, 4095, 4096]),
+        1 => random.pick(&[100, 254, 255, 256, 257, 258, 1364, 1365, 1366, 2047, 2048, 4095, 4096]),
         2 | 3 => random.below(30_000),
         4 => random.below(100_000),
         _ => random.below(300_001),

@@ -4,7 +4,9 @@ mod answers;
 mod build;
 mod bytes;
 mod cases;
+mod chains;
 mod damaged;
+mod deep;
 mod edges;
 mod expr;
 mod faults;
@@ -15,6 +17,7 @@ mod illtyped;
 mod inputs;
 mod limits;
 mod long;
+mod nests;
 mod programs;
 mod random;
 mod reading;
@@ -30,6 +33,8 @@ mod trace;
 mod typing;
 
 #[cfg(test)]
+mod counttests;
+#[cfg(test)]
 mod definition;
 #[cfg(test)]
 mod parse;
@@ -42,11 +47,24 @@ use rows::{read_rows, ALL_QUESTIONS, QUESTIONS};
 use std::io::{self, BufWriter, Read, Write};
 use textcases::{text_cases, TextCase};
 
+/// Room for what recurs over a tree: one of 4,096 nodes may be thousands deep.
+const STACK: usize = 256 << 20;
+
+/// Does the work on a stack of that room.
+fn with_room<T: Send>(work: impl FnOnce() -> T + Send) -> T {
+    std::thread::scope(|scope| {
+        let thread = std::thread::Builder::new().stack_size(STACK).spawn_scoped(scope, work).unwrap();
+        thread.join().unwrap_or_else(|panic| std::panic::resume_unwind(panic))
+    })
+}
+
 fn main() {
     let arguments: Vec<String> = std::env::args().skip(1).collect();
     let words: Vec<&str> = arguments.iter().map(String::as_str).collect();
-    let mut out = BufWriter::new(io::stdout().lock());
-    let written = obey(&words, &mut out).and_then(|()| out.flush());
+    let written = with_room(|| {
+        let mut out = BufWriter::new(io::stdout().lock());
+        obey(&words, &mut out).and_then(|()| out.flush())
+    });
     if written.is_err() {
         std::process::exit(1);
     }
@@ -58,7 +76,7 @@ fn obey(words: &[&str], out: &mut impl Write) -> io::Result<()> {
         ["store", rest @ ..] => program(programs::store(rest, &input(u64::MAX)?), out),
         ["show", rest @ ..] => program(programs::show(rest, &input(u64::MAX)?), out),
         ["runs"] => programs::runs().iter().try_for_each(|run| writeln!(out, "{}", run.words)),
-        ["runinput", i] => out.write_all(&programs::runs()[number(i) as usize].input),
+        ["runinputs", folder] => programs::runs().iter().enumerate().try_for_each(|(i, run)| std::fs::write(format!("{folder}/{i}"), &run.input)),
         ["trace"] => trace::trace(&input(trace::MOST_INPUT as u64)?, out),
         ["traceinput", i] => {
             let rows = read_rows(&input(u64::MAX)?);
@@ -68,6 +86,12 @@ fn obey(words: &[&str], out: &mut impl Write) -> io::Result<()> {
         ["cases"] => write_cases(ALL_QUESTIONS, out),
         ["cases", questions] => write_cases(questions, out),
         ["lines", questions] => write_lines(questions, out),
+        ["deep", questions] => out.write_all(&deep::deep_records(questions)),
+        ["deeplines"] => deep::deep_rows().iter().try_for_each(|row| writeln!(out, "{}", row.line)),
+        ["deepruns"] => out.write_all(&deep::run_records()),
+        ["deeptraces"] => out.write_all(&deep::trace_records()),
+        ["deepnames"] => deep::names().iter().try_for_each(|name| writeln!(out, "{name}")),
+        ["deepgate", question] => out.write_all(&deep::gate_records(question.as_bytes()[0])),
         ["names"] => cases::cases().iter().try_for_each(|case| writeln!(out, "{}", case.name)),
         ["faults"] => out.write_all(&faults::faults()),
         ["small"] => out.write_all(&faults::small()),
@@ -78,7 +102,7 @@ fn obey(words: &[&str], out: &mut impl Write) -> io::Result<()> {
 }
 
 fn usage() -> ! {
-    eprintln!("answers | trace | store WORDS | show WORDS | runs | runinput I | traceinput I | short BYTES PRINTED | cases [QUESTIONS] | lines QUESTIONS | names | faults | small | generate KIND SEED COUNT [QUESTIONS]");
+    eprintln!("answers | trace | store WORDS | show WORDS | runs | runinputs FOLDER | traceinput I | short BYTES PRINTED | cases [QUESTIONS] | lines QUESTIONS | names | deep QUESTIONS | deepnames | deepruns | deeplines | deeptraces | deepgate QUESTION | faults | small | generate KIND SEED COUNT [QUESTIONS]");
     std::process::exit(2)
 }
 
@@ -116,15 +140,16 @@ fn asked_cases(questions: &str) -> impl Iterator<Item = TextCase> + '_ {
     text_cases().into_iter().filter(|case| questions.contains(case.question as char))
 }
 
-/// The records of at most so many bytes for whose rows `trace` prints at most so many; those of `s`, `n` and `w` by their bytes alone.
+/// The records of at most so many bytes whose lines have at most so many.
 fn short_rows(bytes: usize, printed: usize, out: &mut impl Write) -> io::Result<()> {
     for (question, row) in read_rows(&input(u64::MAX)?) {
         let record = rows::record(question, &row);
-        let mut lines = Vec::new();
-        if QUESTIONS.contains(question as char) {
-            trace::trace(&rows::whole_input(&row), &mut lines)?;
+        if record.len() > bytes {
+            continue;
         }
-        if record.len() <= bytes && lines.len() <= printed {
+        let mut lines = Vec::new();
+        answers::answers(&record, &mut lines)?;
+        if lines.len() <= printed {
             out.write_all(&record)?;
         }
     }

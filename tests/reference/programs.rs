@@ -1,6 +1,9 @@
 //! The programs `store` and `show`: what each writes for its words and its input; and the runs of them that are compared.
 
+use crate::build;
 use crate::cases::cases;
+use crate::expr::text;
+use crate::nests::{deepest, list, skips};
 use crate::reading;
 use crate::refusal::Refusal;
 use crate::textcases::text_cases;
@@ -137,6 +140,11 @@ fn other_texts() -> Vec<ProgramRun> {
         run("store 1", opened(MOST_TEXT + 1)),
         run("store 1", opened(3 * MOST_TEXT)),
         run("store 1", skip),
+        run("store 3", text(&list(1300)).into_bytes()),
+        run("store 3 5 0 0 0", (text(&list(1365)) + "\n").into_bytes()),
+        run("store 0", text(&skips(2047, build::skip())).into_bytes()),
+        run("store 0", text(&skips(2048, build::skip())).into_bytes()),
+        run("store 1 1 1", text(&deepest()).into_bytes()),
     ]
 }
 

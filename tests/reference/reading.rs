@@ -3,7 +3,7 @@
 use crate::expr;
 use crate::form::{form, Formed, Kind, Node, Number};
 use crate::refusal::Refusal;
-use crate::routine::{self, with_header};
+use crate::routine::{self, with_header, MOST_COUNT};
 
 /// The stored routine of a text with m locations: 4, 50, 51, 52, 5, 9 and 53 in this order, else its bytes.
 pub fn store(text: &[u8], m: usize, room: usize) -> Result<Vec<u8>, Refusal> {
@@ -16,7 +16,7 @@ pub fn store(text: &[u8], m: usize, room: usize) -> Result<Vec<u8>, Refusal> {
     if n > 4096 {
         return Err(Refusal::Plain(5));
     }
-    if formed.nodes[n - 1].depth > 256 {
+    if formed.nodes[n - 1].count > MOST_COUNT {
         return Err(Refusal::Plain(9));
     }
     if room < 6 + 8 * n {

@@ -1,8 +1,11 @@
 //! The stored routine: refusals 1 to 9, its tree, and the way back to bytes.
 
 use crate::bytes::{four_bytes, two_bytes};
-use crate::expr::{children, depth, node, Expr, Form, Tree};
+use crate::expr::{children, count, node, Expr, Form, Tree};
 use crate::refusal::Refusal;
+
+/// The largest count that is not refused by 9.
+pub const MOST_COUNT: usize = 256;
 
 pub struct Routine {
     pub m: usize,
@@ -17,7 +20,7 @@ pub fn read(bytes: &[u8]) -> Result<Routine, Refusal> {
         return Err(Refusal::Plain(8));
     }
     let tree = tree_at(bytes, n - 1);
-    if depth(&tree) > 256 {
+    if count(&tree) > MOST_COUNT {
         return Err(Refusal::Plain(9));
     }
     Ok(Routine { m: bytes[3] as usize, tree })

@@ -2,9 +2,10 @@
 //! that 01 and 2.3 state, on generated rows.
 
 use crate::answers::answers;
-use crate::expr::{depth, size, text, Tree};
+use crate::expr::{count, size, text, Tree};
 use crate::faults;
 use crate::generate::a_row;
+use crate::nests::{assignments, sums_left};
 use crate::parse::parse;
 use crate::random::Random;
 use crate::refusal::Refusal::{self, At, Needs, Plain};
@@ -14,6 +15,7 @@ use crate::run::{run, run_tree, text_after, End};
 use crate::step::Rule;
 use crate::trace::trace;
 use crate::typing::{accept, check, type_of, work_nodes, write_set, Told, Type};
+use crate::with_room;
 
 const EXAMPLE: &[u8] = &[
     0x00, 0x24, 0x01, 0x01, 0x00, 0x04, //
@@ -173,18 +175,13 @@ fn boolean_byte() {
 }
 
 #[test]
-fn forests_and_depth() {
+fn forests_and_counts() {
     let mut nodes = Vec::new();
     store_nodes(&parse("(1 + 2)"), &mut nodes);
     store_nodes(&parse("(true + skip)"), &mut nodes);
     assert_eq!(check(&with_header(0, &nodes)).unwrap_err(), Plain(8));
-    assert_eq!(check(&store_routine(0, &sums(255))).unwrap().w, 255);
-    assert_eq!(check(&store_routine(0, &sums(256))).unwrap_err(), Plain(9));
-}
-
-/// 1 + 1 + .. nested to the left, this many sums.
-fn sums(count: usize) -> Tree {
-    (0..count).fold(parse("1"), |e, _| crate::build::plus(e, parse("1")))
+    assert_eq!(check(&store_routine(0, &sums_left(256, parse("1")))).unwrap().w, 256);
+    assert_eq!(check(&store_routine(0, &sums_left(257, parse("1")))).unwrap_err(), Plain(9));
 }
 
 #[test]
@@ -266,10 +263,12 @@ fn some_rows(kind: &str, count: usize) -> Vec<Row> {
 
 #[test]
 fn rows_files_come_back() {
-    for row in some_rows("mixed", 300) {
-        let (question, back) = read_rows(&record(b'x', &row)).pop().unwrap();
-        assert_eq!((question, &back.bytes, back.fuel, &back.store), (b'x', &row.bytes, row.fuel, &row.store));
-    }
+    with_room(|| {
+        for row in some_rows("mixed", 300) {
+            let (question, back) = read_rows(&record(b'x', &row)).pop().unwrap();
+            assert_eq!((question, &back.bytes, back.fuel, &back.store), (b'x', &row.bytes, row.fuel, &row.store));
+        }
+    })
 }
 
 fn answered(file: &[u8]) -> String {
@@ -325,98 +324,112 @@ fn records_that_are_not_answered() {
 
 #[test]
 fn kinds_are_what_they_say() {
-    assert!(some_rows("good", 2000).iter().all(|row| run(&row.bytes, &mut row.store.clone(), 0).is_ok()));
-    for row in some_rows("illtyped", 2000) {
-        assert!(matches!(check(&row.bytes), Err(At(20..=23, _))));
-    }
+    with_room(|| {
+        assert!(some_rows("good", 2000).iter().all(|row| run(&row.bytes, &mut row.store.clone(), 0).is_ok()));
+        for row in some_rows("illtyped", 2000) {
+            assert!(matches!(check(&row.bytes), Err(At(20..=23, _))));
+        }
+    })
 }
 
 #[test]
 fn texts_parse_back_and_store_back() {
-    for row in some_rows("good", 2000) {
-        let routine = read(&row.bytes).unwrap();
-        assert_eq!(bytes_of(routine.m as u8, &text(&routine.tree)), row.bytes);
-    }
+    with_room(|| {
+        for row in some_rows("good", 2000) {
+            let routine = read(&row.bytes).unwrap();
+            assert_eq!(bytes_of(routine.m as u8, &text(&routine.tree)), row.bytes);
+        }
+    })
 }
 
-/// Each step keeps the type and lowers the work left by one or more, a while
+/// A text has the length that stands with its tree. Each step keeps the type and lowers the work left by one or more, a while
 /// step raises it by at most W + 1; so T is at most W + K x (W + 2). Only the
 /// locations of the write set change.
 #[test]
 fn properties_of_steps() {
-    for row in some_rows("good", 1500) {
-        let (routine, t) = accept(&row.bytes).unwrap();
-        let w = work_nodes(&routine.tree);
-        let mut left = w;
-        let mut store = row.store.clone();
-        let run = run_tree(&routine.tree, &mut store, row.fuel.min(500), |_, rule, e, _| {
-            assert_eq!(type_of(e, routine.m), Ok(t));
-            let now = work_nodes(e);
-            assert!(if rule == Rule::While { now <= left + w + 1 } else { now < left });
-            left = now;
-        });
-        assert!(run.steps as usize <= w + run.loops as usize * (w + 2));
-        for (l, (before, after)) in row.store.iter().zip(&store).enumerate() {
-            assert!(before == after || write_set(&routine.tree) >> l & 1 == 1);
+    with_room(|| {
+        for row in some_rows("good", 1500) {
+            let (routine, t) = accept(&row.bytes).unwrap();
+            let w = work_nodes(&routine.tree);
+            let mut left = w;
+            let mut store = row.store.clone();
+            let run = run_tree(&routine.tree, &mut store, row.fuel.min(500), |_, rule, e, _| {
+                assert_eq!(type_of(e, routine.m), Ok(t));
+                assert_eq!(text(e).len(), e.width);
+                let now = work_nodes(e);
+                assert!(if rule == Rule::While { now <= left + w + 1 } else { now < left });
+                left = now;
+            });
+            assert!(run.steps as usize <= w + run.loops as usize * (w + 2));
+            for (l, (before, after)) in row.store.iter().zip(&store).enumerate() {
+                assert!(before == after || write_set(&routine.tree) >> l & 1 == 1);
+            }
         }
-    }
+    })
 }
 
 /// The text after k steps is the trace's line k; the last line is the run's.
 #[test]
 fn trace_run_and_text_agree() {
-    for mut row in some_rows("good", 400) {
-        row.fuel = row.fuel.min(60);
-        let lines = traced(&trace_input(&row));
-        let lines: Vec<&str> = lines.lines().collect();
-        for k in 0..lines.len() - 1 {
-            let (written, steps) = text_after(&row.bytes, &row.store, k as u32, usize::MAX).unwrap();
-            assert_eq!(steps as usize, k);
-            assert!(written.len() > 8192 || lines[k].contains(&format!(" {written} |")));
+    with_room(|| {
+        for mut row in some_rows("good", 400) {
+            row.fuel = row.fuel.min(60);
+            let lines = traced(&trace_input(&row));
+            let lines: Vec<&str> = lines.lines().collect();
+            for k in 0..lines.len() - 1 {
+                let (written, steps) = text_after(&row.bytes, &row.store, k as u32, usize::MAX).unwrap();
+                assert_eq!(steps as usize, k);
+                assert!(written.len() > 8192 || lines[k].contains(&format!(" {written} |")));
+            }
+            let run = run(&row.bytes, &mut row.store, row.fuel).unwrap();
+            assert_eq!(lines[lines.len() - 1], run.to_string());
+            assert_eq!(lines.len() as u64, run.steps + 2);
         }
-        let run = run(&row.bytes, &mut row.store, row.fuel).unwrap();
-        assert_eq!(lines[lines.len() - 1], run.to_string());
-        assert_eq!(lines.len() as u64, run.steps + 2);
-    }
+    })
 }
 
 /// A run with fuel T ends as with more; with less it ends by fuel (a value or
 /// an overflow can't come sooner), and the stores agree with the step counts.
 #[test]
 fn fuel_cuts_only() {
-    for row in some_rows("good", 400) {
-        let mut store = row.store.clone();
-        let full = run(&row.bytes, &mut store, 300).unwrap();
-        let mut again = row.store.clone();
-        let exact = run(&row.bytes, &mut again, full.steps as u32).unwrap();
-        assert_eq!((&exact.end, exact.steps, &again), (&full.end, full.steps, &store));
-        if full.steps > 0 {
-            let less = run(&row.bytes, &mut row.store.clone(), full.steps as u32 - 1).unwrap();
-            assert_eq!((less.end, less.steps), (End::Fuel, full.steps - 1));
+    with_room(|| {
+        for row in some_rows("good", 400) {
+            let mut store = row.store.clone();
+            let full = run(&row.bytes, &mut store, 300).unwrap();
+            let mut again = row.store.clone();
+            let exact = run(&row.bytes, &mut again, full.steps as u32).unwrap();
+            assert_eq!((&exact.end, exact.steps, &again), (&full.end, full.steps, &store));
+            if full.steps > 0 {
+                let less = run(&row.bytes, &mut row.store.clone(), full.steps as u32 - 1).unwrap();
+                assert_eq!((less.end, less.steps), (End::Fuel, full.steps - 1));
+            }
         }
-    }
+    })
 }
 
 /// The rows of `limits` reach every refusal of the run and both sides of the limits.
 #[test]
 fn limits_are_reached() {
-    let rows = some_rows("limits", 6000);
-    let met = |refusal: &str| rows.iter().any(|row| {
-        let answer = run(&row.bytes, &mut row.store.clone(), 0);
-        answer.err().map_or(false, |r| r.to_string().split(" at").next() == Some(refusal))
-    });
-    for number in [1, 2, 3, 4, 5, 6, 7, 8, 9, 20, 21, 22, 23, 30] {
-        assert!(met(&format!("refused {number}")), "{}", number);
-    }
-    let accepted: Vec<_> = rows.iter().filter_map(|row| accept(&row.bytes).ok()).collect();
-    assert!(accepted.iter().any(|(routine, _)| depth(&routine.tree) == 256));
-    assert!(accepted.iter().any(|(routine, _)| size(&routine.tree) == 4096));
-    assert!(accepted.iter().any(|(routine, _)| size(&routine.tree) == 1));
-    assert!(accepted.iter().any(|(routine, _)| routine.m == 64));
+    with_room(|| {
+        let rows = some_rows("limits", 6000);
+        let met = |refusal: &str| rows.iter().any(|row| {
+            let answer = run(&row.bytes, &mut row.store.clone(), 0);
+            answer.err().map_or(false, |r| r.to_string().split(" at").next() == Some(refusal))
+        });
+        for number in [1, 2, 3, 4, 5, 6, 7, 8, 9, 20, 21, 22, 23, 30] {
+            assert!(met(&format!("refused {number}")), "{}", number);
+        }
+        let accepted: Vec<_> = rows.iter().filter_map(|row| accept(&row.bytes).ok()).collect();
+        assert!(accepted.iter().any(|(routine, _)| count(&routine.tree) == 256));
+        assert!(accepted.iter().any(|(routine, _)| size(&routine.tree) == 4096));
+        assert!(accepted.iter().any(|(routine, _)| size(&routine.tree) == 1));
+        assert!(accepted.iter().any(|(routine, _)| routine.m == 64));
+    })
 }
 
 #[test]
 fn deepest_layout() {
-    let tree = (1..4096).fold(parse("1"), |e, _| crate::build::assign(0, e));
-    assert_eq!(check(&store_routine(1, &tree)).unwrap_err(), Plain(9));
+    with_room(|| {
+        assert_eq!(check(&store_routine(1, &assignments(4095))).unwrap_err(), Plain(9));
+    })
 }

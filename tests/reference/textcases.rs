@@ -1,9 +1,10 @@
-//! Named texts and rows for `s`, `n` and `w`, each with its line, worked out from 01 and request 1 of 02 by hand.
+//! Named texts and rows for `s`, `n` and `w`, each with its line, worked out from 01 and requests 1 and 2 of 02 by hand.
 
 use crate::build::*;
-use crate::cases::{left_deep, right_deep, wide};
+use crate::cases::wide;
 use crate::expr::{text, Tree};
 use crate::long::long_cases;
+use crate::nests::*;
 use crate::routine::{store_nodes, store_routine, with_header};
 use crate::rows::Row;
 
@@ -132,9 +133,9 @@ fn large_numbers() -> Vec<TextCase> {
     ]
 }
 
-/// m, n, the depth and the room, both sides.
+/// m, n, the count and the room, both sides.
 fn limits() -> Vec<TextCase> {
-    let chain = |nodes: usize| ["(l0 := ".repeat(nodes - 1), "1".to_string(), ")".repeat(nodes - 1)].concat();
+    let chain = |count: usize| ["(l0 := ".repeat(count), "1".to_string(), ")".repeat(count)].concat();
     let of = |m: u8, room: u32, tree: Tree| reads(m as usize, room, text(&tree).as_bytes(), &tree_line(m, &tree));
     let refused = |room: u32, tree: Tree, line: &str| reads(1, room, text(&tree).as_bytes(), line);
     let skip_row = "14 000c01400001".to_string() + "0700000000000000";
@@ -153,17 +154,14 @@ fn limits() -> Vec<TextCase> {
         refused(LARGE, seq(deref(0), wide(4095)), "refused 5"),
         reads_1(&format!("({} ; 2147483648)", text(&wide(4095))), &format!("refused 51 at {}", text(&wide(4095)).len() + 4)),
         reads_1(&format!("({} ; !l256)", text(&wide(4095))), &format!("refused 52 at {}", text(&wide(4095)).len() + 6)),
-        reads_1(&chain(256), &tree_line(1, &(1..256).fold(int(1), |e, _| assign(0, e)))),
+        reads_1(&chain(256), &tree_line(1, &assignments(256))),
         reads_1(&chain(257), "refused 9"),
-        reads_1(&chain(4096), "refused 9"),
-        reads_1(&chain(4097), "refused 5"),
-        reads_1(&chain(4097)[1..], "refused 50 at 0"),
-        of(0, LARGE, left_deep(256)),
-        refused(LARGE, left_deep(257), "refused 9"),
-        of(0, LARGE, right_deep(256)),
-        refused(LARGE, right_deep(257), "refused 9"),
-        refused(0, right_deep(257), "refused 9"),
-        refused(4093, right_deep(256), "refused 53 needs 4094"),
+        reads_1(&chain(4095), "refused 9"),
+        reads_1(&chain(4096), "refused 5"),
+        reads_1(&chain(4096)[1..], "refused 50 at 0"),
+        of(0, LARGE, sums_left(256, int(1))),
+        of(0, LARGE, sums_right(256, int(1))),
+        refused(0, sums_right(257, int(1)), "refused 9"),
         reads(1, 38, COURSE.as_bytes(), &row_line(1, &COURSE_NODES)),
         reads(1, 39, COURSE.as_bytes(), &row_line(1, &COURSE_NODES)),
         reads(1, u32::MAX, COURSE.as_bytes(), &row_line(1, &COURSE_NODES)),
@@ -172,6 +170,37 @@ fn limits() -> Vec<TextCase> {
         reads(1, 0, b"", "refused 50 at 0"),
         reads(1, 0, b"2147483648", "refused 51 at 0"),
         reads(1, 0, b"!l256", "refused 52 at 2"),
+    ]
+}
+
+/// The nodes of `by_each_form(256)`, by hand.
+const NODES: [usize; 15] = [513, 513, 513, 513, 513, 769, 512, 257, 513, 513, 513, 641, 1529, 1788, 682];
+
+/// Counts 256 and 257 by each form. Those of 256 have a byte too little room, so that they are read to their end and no row is told.
+fn counts() -> Vec<TextCase> {
+    let of = |room: u32, tree: &Tree, line: &str| reads(1, room, text(tree).as_bytes(), line);
+    let in_range = by_each_form(256).into_iter().zip(NODES).map(|((_, tree), n)| of(5 + 8 * n as u32, &tree, &format!("refused 53 needs {}", 6 + 8 * n)));
+    let over = by_each_form(257).into_iter().map(|(_, tree)| of(LARGE, &tree, "refused 9"));
+    // of the plain forms 257 is told by parts, in `long`
+    in_range.chain(over.skip(11)).collect()
+}
+
+/// The text of `list`.
+fn list_text(count: usize) -> String {
+    let one = |i: usize| format!("(l{} := {i})", i % 3);
+    let before: String = (1..count).map(|i| format!("({} ; ", one(i))).collect();
+    format!("{before}{}{}", one(count), ")".repeat(count - 1))
+}
+
+/// Far deeper than their count: 300 assignments joined to the right are stored, and of the longest lists the bytes are told that they need.
+fn lists() -> Vec<TextCase> {
+    let needs = |m: usize, tree: Tree, bytes: u32| reads(m, bytes - 1, text(&tree).as_bytes(), &format!("refused 53 needs {bytes}"));
+    vec![
+        reads(3, LARGE, list_text(300).as_bytes(), &tree_line(3, &list(300))),
+        needs(3, list(1365), 6 + 8 * 4094),
+        needs(1, skips(2047, assign(0, int(7))), 6 + 8 * 4096),
+        needs(1, thirds(1365, deref(0)), 6 + 8 * 4096),
+        needs(1, deepest(), 6 + 8 * 4095),
     ]
 }
 
@@ -200,10 +229,16 @@ fn written() -> Vec<TextCase> {
         writes(1, store_routine(0, &int(0)), "1 0"),
         writes(0, store_routine(0, &int(0)), "refused 32 needs 1"),
     ];
-    // 256 deep: 255 sums of 5 bytes around a digit, each with a digit more
-    let deep = ["(".repeat(255), "1".to_string(), " + 0)".repeat(255)].concat();
-    cases.push(writes(1531, store_routine(0, &left_deep(256)), &format!("1531 {deep}")));
-    cases.push(writes(1530, store_routine(0, &left_deep(256)), "refused 32 needs 1531"));
+    // count 256: as many sums of 5 bytes around a digit, each with a digit more
+    let deep = ["(".repeat(256), "1".to_string(), " + 1)".repeat(256)].concat();
+    cases.push(writes(1537, store_routine(0, &sums_left(256, int(1))), &format!("1537 {deep}")));
+    cases.push(writes(1536, store_routine(0, &sums_left(256, int(1))), "refused 32 needs 1537"));
+    let list_300 = list_text(300);
+    cases.push(writes(LARGE, store_routine(3, &list(300)), &format!("{} {list_300}", list_300.len())));
+    let skips_2048 = ["(skip ; ".repeat(2047), "skip".to_string(), ")".repeat(2047)].concat();
+    cases.push(writes(18_427, store_routine(0, &skips(2047, skip())), &format!("18427 {skips_2048}")));
+    // 1,919 times 9, 256 times 8, and a digit
+    cases.push(writes(19_319, store_routine(1, &deepest()), "refused 32 needs 19320"));
     cases
 }
 
@@ -230,7 +265,12 @@ fn not_written() -> Vec<TextCase> {
         writes(0, with(33, 1), "refused 7 at 3"),
         writes(0, with(15, 1), "refused 7 at 1"),
         writes(0, with_header(0, &forest), "refused 8"),
-        writes(0, store_routine(0, &left_deep(257)), "refused 9"),
+        writes(0, store_routine(0, &sums_left(257, int(1))), "refused 9"),
+        writes(LARGE, store_routine(0, &sums_right(257, int(1))), "refused 9"),
+        writes(LARGE, store_routine(0, &firsts(257)), "refused 9"),
+        writes(LARGE, store_routine(0, &tests(257)), "refused 9"),
+        writes(LARGE, store_routine(1, &assignments(257)), "refused 9"),
+        writes(LARGE, store_routine(1, &skips(300, assignments(257))), "refused 9"),
         writes(18, with(7, 5), "18 (l0 := (!l5 + 25))"),
     ]
 }
@@ -240,6 +280,8 @@ pub fn text_cases() -> Vec<TextCase> {
     all.extend(not_of_the_form());
     all.extend(large_numbers());
     all.extend(limits());
+    all.extend(counts());
+    all.extend(lists());
     all.extend(long_cases());
     all.extend(written());
     all.extend(not_written());

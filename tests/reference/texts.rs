@@ -1,7 +1,8 @@
 //! KINDS texts and written: texts of random trees, well typed or not, and rows to be written; with rooms about what they need.
 
+use crate::chains::accepted_chain;
 use crate::damaged::damaged_row;
-use crate::expr::{depth, size, text, Tree};
+use crate::expr::{count, size, text, Tree};
 use crate::generate::{a_row, entries};
 use crate::good::{a_room, an_m, good_tree, Maker};
 use crate::random::Random;
@@ -50,10 +51,13 @@ pub fn any_tree(random: &mut Random) -> Tree {
         let room = a_room(random);
         let m = an_m(random);
         let slips = random.pick(&[5, 30, 100]);
+        if random.percent(3) {
+            return accepted_chain(random, m, slips);
+        }
         let mut maker = Maker::new(random, m, slips);
         let t = maker.random.pick(&[Type::Int, Type::Bool, Type::Unit]);
         let tree = maker.tree(t, room);
-        if depth(&tree) <= 256 && size(&tree) <= 4096 {
+        if count(&tree) <= 256 && size(&tree) <= 4096 {
             return tree;
         }
     }

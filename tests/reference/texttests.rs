@@ -12,6 +12,7 @@ use crate::refusal::Refusal::{At, Needs, Plain};
 use crate::routine::read;
 use crate::rows::{record, Row};
 use crate::textcases::text_cases;
+use crate::with_room;
 use std::collections::HashSet;
 
 fn some_rows(kind: &str, count: usize) -> Vec<Row> {
@@ -21,11 +22,13 @@ fn some_rows(kind: &str, count: usize) -> Vec<Row> {
 
 #[test]
 fn named_texts_have_their_lines() {
-    for case in text_cases() {
-        let mut line = Vec::new();
-        answers(&record(case.question, &case.row), &mut line).unwrap();
-        assert_eq!(String::from_utf8(line).unwrap(), case.line + "\n", "{}", String::from_utf8_lossy(&case.row.bytes));
-    }
+    with_room(|| {
+        for case in text_cases() {
+            let mut line = Vec::new();
+            answers(&record(case.question, &case.row), &mut line).unwrap();
+            assert_eq!(String::from_utf8(line).unwrap(), case.line + "\n", "{}", String::from_utf8_lossy(&case.row.bytes));
+        }
+    })
 }
 
 /// Calls it for each word of these bytes of the length.
@@ -78,56 +81,64 @@ fn offsets_by_their_sentence() {
 
 #[test]
 fn offsets_of_generated_texts() {
-    for kind in ["texts", "spoilt", "edges"] {
-        for row in some_rows(kind, 2000).iter().filter(|row| row.bytes.len() < 150) {
-            assert_eq!(form(&row.bytes).err(), offset(&row.bytes), "{}", String::from_utf8_lossy(&row.bytes));
+    with_room(|| {
+        for kind in ["texts", "spoilt", "edges"] {
+            for row in some_rows(kind, 2000).iter().filter(|row| row.bytes.len() < 150) {
+                assert_eq!(form(&row.bytes).err(), offset(&row.bytes), "{}", String::from_utf8_lossy(&row.bytes));
+            }
         }
-    }
+    })
 }
 
 /// Reading an accepted text and writing gives the text; the row passes 1 to 9 and needs the bytes that were told.
 #[test]
 fn texts_come_back() {
-    for kind in ["texts", "spoilt", "edges"] {
-        for row in some_rows(kind, 2000) {
-            let Ok(bytes) = store(&row.bytes, row.store.len(), 65_536) else { continue };
-            assert_eq!(write(&bytes, row.bytes.len()).unwrap().into_bytes(), row.bytes);
-            assert_eq!(write(&bytes, row.bytes.len() - 1), Err(Needs(32, row.bytes.len())));
-            assert_eq!(store(&row.bytes, row.store.len(), bytes.len()).as_ref(), Ok(&bytes));
-            assert_eq!(store(&row.bytes, row.store.len(), bytes.len() - 1), Err(Needs(53, bytes.len())));
+    with_room(|| {
+        for kind in ["texts", "spoilt", "edges"] {
+            for row in some_rows(kind, 2000) {
+                let Ok(bytes) = store(&row.bytes, row.store.len(), 65_536) else { continue };
+                assert_eq!(write(&bytes, row.bytes.len()).unwrap().into_bytes(), row.bytes);
+                assert_eq!(write(&bytes, row.bytes.len() - 1), Err(Needs(32, row.bytes.len())));
+                assert_eq!(store(&row.bytes, row.store.len(), bytes.len()).as_ref(), Ok(&bytes));
+                assert_eq!(store(&row.bytes, row.store.len(), bytes.len() - 1), Err(Needs(53, bytes.len())));
+            }
         }
-    }
+    })
 }
 
 /// Writing and reading with the same m gives the same bytes.
 #[test]
 fn rows_come_back() {
-    for kind in ["good", "illtyped", "damaged", "limits", "written"] {
-        for row in some_rows(kind, 2000) {
-            match (read(&row.bytes), write(&row.bytes, usize::MAX)) {
-                (Ok(routine), Ok(text)) => assert_eq!(store(text.as_bytes(), routine.m, 65_536), Ok(row.bytes)),
-                (Err(why), Err(told)) => assert_eq!(why, told),
-                _ => panic!("one refuses"),
+    with_room(|| {
+        for kind in ["good", "illtyped", "damaged", "limits", "written"] {
+            for row in some_rows(kind, 2000) {
+                match (read(&row.bytes), write(&row.bytes, usize::MAX)) {
+                    (Ok(routine), Ok(text)) => assert_eq!(store(text.as_bytes(), routine.m, 65_536), Ok(row.bytes)),
+                    (Err(why), Err(told)) => assert_eq!(why, told),
+                    _ => panic!("one refuses"),
+                }
             }
         }
-    }
+    })
 }
 
 /// The kinds reach every refusal, and rows at both limits.
 #[test]
 fn every_refusal_is_met() {
-    let mut met = HashSet::new();
-    for kind in ["texts", "spoilt", "edges"] {
-        for row in some_rows(kind, 3000) {
-            match store(&row.bytes, row.store.len(), (row.fuel as usize).min(65_536)) {
-                Ok(bytes) => met.insert(1000 + read(&bytes).unwrap().m as u32 / 64),
-                Err(Plain(c) | At(c, _) | Needs(c, _)) => met.insert(c),
-            };
+    with_room(|| {
+        let mut met = HashSet::new();
+        for kind in ["texts", "spoilt", "edges"] {
+            for row in some_rows(kind, 3000) {
+                match store(&row.bytes, row.store.len(), (row.fuel as usize).min(65_536)) {
+                    Ok(bytes) => met.insert(1000 + read(&bytes).unwrap().m as u32 / 64),
+                    Err(Plain(c) | At(c, _) | Needs(c, _)) => met.insert(c),
+                };
+            }
         }
-    }
-    for wanted in [4, 50, 51, 52, 5, 9, 53, 1000, 1001] {
-        assert!(met.contains(&wanted), "{wanted}");
-    }
+        for wanted in [4, 50, 51, 52, 5, 9, 53, 1000, 1001] {
+            assert!(met.contains(&wanted), "{wanted}");
+        }
+    })
 }
 
 /// A million deep, well formed; with the last bracket missing; and only opened.
@@ -155,6 +166,10 @@ fn long_texts() {
 /// What the programs write, worked out by hand.
 #[test]
 fn programs_write() {
+    with_room(programs_write_by_hand);
+}
+
+fn programs_write_by_hand() {
     let row = [0, 36, 1, 1, 0, 4, 6, 0, 0, 0, 0, 0, 0, 0, 0, 0, 0, 0, 0, 0, 0, 25, 2, 0, 0, 0, 0, 1, 0, 0, 5, 0, 0, 2, 0, 0, 0, 0];
     let setting = |words: &[&str], end: &str| programs::store(words, format!("(l0 := (!l0 + 25)){end}").as_bytes());
     let said = |line: &str| Err(line.to_string());
@@ -174,5 +189,5 @@ fn programs_write() {
     assert_eq!(programs::show(&[], &row[..5]), said("refused 1"));
     assert_eq!(programs::show(&[], &[&row[..37], &[1]].concat()), said("refused 7 at 3"));
     assert_eq!(programs::show(&["1"], &row), said("usage:"));
-    assert!(programs::runs().len() < 320);
+    assert!(programs::runs().len() < 420, "{}", programs::runs().len());
 }

@@ -52,10 +52,7 @@ fn print_run(routine: &Routine, fuel: u32, mut values: Vec<i32>, out: &mut impl 
 
 /// One line a moment: step number, rule, text, ` |`, each location's value.
 fn print_moment(steps: u64, rule: &str, tree: &Tree, store: &[i32], out: &mut impl Write) -> io::Result<()> {
-    let mut written = text(tree);
-    if written.len() > 8192 {
-        written = format!("#{}", written.len());
-    }
+    let written = if tree.width > 8192 { format!("#{}", tree.width) } else { text(tree) };
     writeln!(out, "{steps} {rule} {written} |{}", entries_text(store))
 }
 
