@@ -27,7 +27,7 @@ pub enum Refusal {
 #[derive(Clone, Copy)]
 struct Known {
     size: u16,
-    depth: u16,
+    places: u16,
     ty: Ty,
 }
 
@@ -57,7 +57,7 @@ impl Checker {
         if (root.size as usize) < n {
             return Err(Refusal::Plain(8));
         }
-        if root.depth > 256 {
+        if root.places > 256 {
             return Err(Refusal::Plain(9));
         }
         if let Some(refusal) = fault {
@@ -93,7 +93,9 @@ impl Checker {
                 };
                 require(a.ty == wanted_a, 21);
                 require(b.ty == wanted_b, 22);
-                Some(Known { size: 1 + a.size + b.size, depth: 1 + a.depth.max(b.depth), ty })
+                // The second part of a sequence is worked in the sequence's own place.
+                let second = b.places + (kind != 8) as u16;
+                Some(Known { size: 1 + a.size + b.size, places: second.max(1 + a.places), ty })
             }
             4 if arg == 0 => {
                 let c = self.child(i, third, 1)?;
@@ -102,8 +104,8 @@ impl Checker {
                 told.working += 1;
                 require(a.ty == Ty::Bool, 21);
                 require(b.ty == c.ty, 23);
-                let depth = 1 + a.depth.max(b.depth).max(c.depth);
-                Some(Known { size: 1 + a.size + b.size + c.size, depth, ty: b.ty })
+                let places = (1 + a.places).max(b.places).max(c.places);
+                Some(Known { size: 1 + a.size + b.size + c.size, places, ty: b.ty })
             }
             5 if second == 0 && third == 0 => {
                 let a = self.child(i, first, 1)?;
@@ -111,7 +113,7 @@ impl Checker {
                 require(arg < m, 20);
                 require(a.ty == Ty::Int, 21);
                 told.writes |= 1 << (arg & 63);
-                Some(Known { size: 1 + a.size, depth: 1 + a.depth, ty: Ty::Unit })
+                Some(Known { size: 1 + a.size, places: 1 + a.places, ty: Ty::Unit })
             }
             6 if first == 0 && second == 0 && third == 0 => {
                 told.working += 1;
@@ -141,7 +143,7 @@ impl Checker {
 }
 
 fn leaf(ty: Ty) -> Known {
-    Known { size: 1, depth: 1, ty }
+    Known { size: 1, places: 0, ty }
 }
 
 /// Refusals 1 to 6, else m.

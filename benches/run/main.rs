@@ -107,4 +107,5 @@ fn main() {
     bench("depth 256, to the left", &rows::deep_left(&mut random), fuel, 200);
     bench("depth 256, to the right", &rows::deep_right(&mut random), fuel, 200);
     bench("straight", &rows::straight(&mut random, 800), fuel, 200);
+    bench("list of 1,300", &rows::list(&mut random, 1300), fuel, 200);
 }

@@ -95,6 +95,17 @@ impl Nodes {
         self.add(8, 0, &[first, second])
     }
 
+    /// So many assignments of a number, joined to the right.
+    fn listed(&mut self, random: &mut Random, count: usize) -> usize {
+        let n = self.int(random.below(4001) as i32 - 2000);
+        let first = self.add(5, random.below(64) as u8, &[n]);
+        if count == 1 {
+            return first;
+        }
+        let second = self.listed(random, count - 1);
+        self.add(8, 0, &[first, second])
+    }
+
     /// A random tree of the type, over 4 locations.
     fn tree(&mut self, random: &mut Random, ty: Ty, depth: usize) -> usize {
         let deep = depth > 1;
@@ -172,6 +183,11 @@ pub fn deep_right(random: &mut Random) -> Vec<u8> {
 /// So many assignments in an endless loop: of 800, 4,001 nodes in all.
 pub fn straight(random: &mut Random, count: usize) -> Vec<u8> {
     Nodes(Vec::new()).endless(|nodes| nodes.assignments(random, count))
+}
+
+/// A plain list in an endless loop: of 1,300 assignments, 3,901 nodes in all.
+pub fn list(random: &mut Random, count: usize) -> Vec<u8> {
+    Nodes(Vec::new()).endless(|nodes| nodes.listed(random, count))
 }
 
 pub fn random(random: &mut Random) -> Vec<u8> {

@@ -208,7 +208,7 @@ fn hostile_texts() {
     hostile("the same without its last bracket", &whole[..whole.len() - 1], 50, whole.len() as u64 - 1);
     hostile("a million sums, to the right", &nest("(1 + ", ")", million), 5, 0);
     hostile("a million assignments", &nest("(l63 := ", ")", million), 5, 0);
-    hostile("4,096 assignments", &nest("(l63 := ", ")", 4095), 9, 0);
+    hostile("4,095 assignments", &nest("(l63 := ", ")", 4095), 9, 0);
     hostile("a million ifs in the test", &nest("(if ", " then 1 else 1)", million), 5, 0);
     hostile("an integer of 10 MB", &vec![b'7'; 10 * million], 51, 0);
     hostile("a location of 10 MB", &[b"!l".to_vec(), vec![b'7'; 10 * million]].concat(), 52, 2);

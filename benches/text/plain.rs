@@ -5,7 +5,7 @@
 pub struct Refusal(pub u32, pub usize);
 
 const MOST_NODES: usize = 4096;
-const MOST_DEPTH: u32 = 256;
+const MOST_PLACES: u32 = 256;
 
 /// Reads texts. The nodes are kept from one text to the next only for their room.
 pub struct Reader {
@@ -24,9 +24,9 @@ impl Reader {
             return Err(Refusal(4, 0));
         }
         self.nodes.clear();
-        let mut parser = Parser { text, at: 0, nodes: &mut self.nodes, deepest: 0, integer: None, location: None };
+        let mut parser = Parser { text, at: 0, nodes: &mut self.nodes, most: 0, integer: None, location: None };
         parser.whole().map_err(|at| Refusal(50, at))?;
-        let (deepest, integer, location) = (parser.deepest, parser.integer, parser.location);
+        let (most, integer, location) = (parser.most, parser.integer, parser.location);
         if let Some(at) = integer {
             return Err(Refusal(51, at));
         }
@@ -37,7 +37,7 @@ impl Reader {
         if n > MOST_NODES {
             return Err(Refusal(5, 0));
         }
-        if deepest > MOST_DEPTH {
+        if most > MOST_PLACES {
             return Err(Refusal(9, 0));
         }
         let length = 6 + 8 * n;
@@ -57,7 +57,8 @@ struct Parser<'a> {
     text: &'a [u8],
     at: usize,
     nodes: &'a mut Vec<[u8; 8]>,
-    deepest: u32,
+    /// The most places around an expression.
+    most: u32,
     /// The first integer out of range.
     integer: Option<usize>,
     /// The first location over 255.
@@ -66,7 +67,7 @@ struct Parser<'a> {
 
 impl Parser<'_> {
     fn whole(&mut self) -> Result<(), usize> {
-        self.expression(1)?;
+        self.expression(0)?;
         if self.at < self.text.len() {
             return Err(self.at);
         }
@@ -102,13 +103,13 @@ impl Parser<'_> {
         (self.nodes.len() - 1) as u16
     }
 
-    /// Reads an expression and gives the number of its node.
-    fn expression(&mut self, depth: u32) -> Result<u16, usize> {
-        self.deepest = self.deepest.max(depth);
+    /// Reads an expression with so many places around it and gives the number of its node.
+    fn expression(&mut self, around: u32) -> Result<u16, usize> {
+        self.most = self.most.max(around);
         match self.next() {
             Some(b'(') => {
                 self.at += 1;
-                self.bracket(depth)
+                self.bracket(around)
             }
             Some(b'!') => {
                 self.word(b"!l")?;
@@ -131,23 +132,24 @@ impl Parser<'_> {
         }
     }
 
-    fn bracket(&mut self, depth: u32) -> Result<u16, usize> {
+    /// A branch of an if and the second part of a sequence are worked in the form's own place, each other part inside the form.
+    fn bracket(&mut self, around: u32) -> Result<u16, usize> {
         match self.next() {
             Some(b'i') => {
                 self.word(b"if ")?;
-                let e1 = self.expression(depth + 1)?;
+                let e1 = self.expression(around + 1)?;
                 self.word(b" then ")?;
-                let e2 = self.expression(depth + 1)?;
+                let e2 = self.expression(around)?;
                 self.word(b" else ")?;
-                let e3 = self.expression(depth + 1)?;
+                let e3 = self.expression(around)?;
                 self.word(b")")?;
                 Ok(self.add(4, 0, [e1, e2, e3]))
             }
             Some(b'w') => {
                 self.word(b"while ")?;
-                let e1 = self.expression(depth + 1)?;
+                let e1 = self.expression(around + 1)?;
                 self.word(b" do ")?;
-                let e2 = self.expression(depth + 1)?;
+                let e2 = self.expression(around + 1)?;
                 self.word(b" done)")?;
                 Ok(self.add(9, 0, [e1, e2, 0]))
             }
@@ -155,12 +157,12 @@ impl Parser<'_> {
                 self.at += 1;
                 let l = self.location()?;
                 self.word(b" := ")?;
-                let e1 = self.expression(depth + 1)?;
+                let e1 = self.expression(around + 1)?;
                 self.word(b")")?;
                 Ok(self.add(5, l, [e1, 0, 0]))
             }
             _ => {
-                let e1 = self.expression(depth + 1)?;
+                let e1 = self.expression(around + 1)?;
                 self.word(b" ")?;
                 let kind = match self.next() {
                     Some(b'+') => {
@@ -177,7 +179,7 @@ impl Parser<'_> {
                     }
                     _ => return Err(self.at),
                 };
-                let e2 = self.expression(depth + 1)?;
+                let e2 = self.expression(around + (kind != 8) as u32)?;
                 self.word(b")")?;
                 Ok(self.add(kind, 0, [e1, e2, 0]))
             }
@@ -241,7 +243,7 @@ impl Parser<'_> {
 #[derive(Clone, Copy)]
 struct Known {
     size: u16,
-    depth: u16,
+    places: u16,
 }
 
 /// Writes rows. What is known of the nodes is kept from one row to the next only for its room.
@@ -280,7 +282,7 @@ impl Writer {
         if (root.size as usize) < n {
             return Err(Refusal(8, 0));
         }
-        if root.depth as u32 > MOST_DEPTH {
+        if root.places as u32 > MOST_PLACES {
             return Err(Refusal(9, 0));
         }
         Ok(length)
@@ -293,7 +295,7 @@ impl Writer {
         let first = u16::from_be_bytes([node[2], node[3]]);
         let second = u16::from_be_bytes([node[4], node[5]]);
         let third = u16::from_be_bytes([node[6], node[7]]);
-        let leaf = Known { size: 1, depth: 1 };
+        let leaf = Known { size: 1, places: 0 };
         match node[0] {
             0 if arg == 0 && first == 0 => Some((leaf, integer_length(integer_of(node)))),
             1 if arg <= 1 && first == 0 && second == 0 && third == 0 => Some((leaf, 5 - arg as usize)),
@@ -305,18 +307,19 @@ impl Writer {
                     3 => "( >= )".len(),
                     _ => "(while  do  done)".len(),
                 };
-                Some((Known { size: 1 + a.size + b.size, depth: 1 + a.depth.max(b.depth) }, own))
+                let second = b.places + (kind != 8) as u16;
+                Some((Known { size: 1 + a.size + b.size, places: second.max(1 + a.places) }, own))
             }
             4 if arg == 0 => {
                 let c = self.child(i, third, 1)?;
                 let b = self.child(third as usize, second, c.size)?;
                 let a = self.child(second as usize, first, b.size)?;
-                let known = Known { size: 1 + a.size + b.size + c.size, depth: 1 + a.depth.max(b.depth).max(c.depth) };
+                let known = Known { size: 1 + a.size + b.size + c.size, places: (1 + a.places).max(b.places).max(c.places) };
                 Some((known, "(if  then  else )".len()))
             }
             5 if second == 0 && third == 0 => {
                 let a = self.child(i, first, 1)?;
-                Some((Known { size: 1 + a.size, depth: 1 + a.depth }, "(l := )".len() + location_length(arg)))
+                Some((Known { size: 1 + a.size, places: 1 + a.places }, "(l := )".len() + location_length(arg)))
             }
             6 if first == 0 && second == 0 && third == 0 => Some((leaf, "!l".len() + location_length(arg))),
             7 if arg == 0 && first == 0 && second == 0 && third == 0 => Some((leaf, "skip".len())),

@@ -126,4 +126,6 @@ fn main() {
     bench(&programs, "depth 256, to the right", &input(rows::deep_right(&mut random), 25_000, &store));
     bench(&programs, "800 assignments, #", &input(rows::straight(&mut random, 800), 300_000, &store));
     bench(&programs, "254 loops under way, #", &input(nested_loops(), 300_000, &store));
+    bench(&programs, "a list of 1,300, #", &input(rows::list(&mut random, 1300), 300_000, &store));
+    bench(&programs, "a list of 300", &input(rows::list(&mut random, 300), 15_000, &store));
 }
