@@ -1,4 +1,7 @@
 // The numbers in a program's words, decimal as 01 writes them: no leading zeros, and `-` exactly before a negative one.
+
+#![tactic(auto)]
+
 ghost use Rattle.std.specs.Prelude.{◌≡◌, ◌∷◌, ◌-◌, ◌≤◌, ◌<◌, get_or};
 ghost use Rattle.arguments.specs.Says.{ValueSays, NaturalSays, IntegerSays};
 

@@ -1,4 +1,7 @@
 // Checks a stored routine against the typing rules: refusals 1 to 9 and 20 to 23, else its type, W, and its read and write sets.
+
+#![tactic(auto)]
+
 pub mod admission; // admission.rt: opening, types and what is lent with a row
 
 ghost use Rattle.std.specs.Prelude.{◌≡◌, ◌||◌, cond, ◌≤◌, ◌<◌, ◌^◌, eqb, length};

@@ -1,6 +1,9 @@
 // Reads a text of the form by descent: the tree that stands at a byte, its nodes in post-order into a lent slice, or nothing.
 //
 // What is refused of a text is not told here: the descent only finds the trees that a routine can hold, and does it in one pass.
+
+#![tactic(auto)]
+
 ghost use Rattle.std.specs.Prelude.{◌≡◌, ◌+◌, ◌*◌, ◌/◌, ◌≤◌, ◌<◌, length, get_or, drop};
 ghost use Rattle.std.proofs.lemmas.List.Edits.{sets};
 ghost use Rattle.stored.specs.Stored.{node_bytes};

@@ -1,4 +1,7 @@
 // Reading a text and writing one, for C and Rust to call, in an archive of their own: a program that only runs rows leaves it out.
+
+#![tactic(auto)]
+
 ghost use Rattle.std.specs.Prelude.{◌≡◌};
 ghost use Rattle.reader.specs.Says.{unread_of};
 ghost use Rattle.exports.specs.Says.{answer_of, refuses};

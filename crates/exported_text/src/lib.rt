@@ -1,5 +1,8 @@
 // The text, for C and Rust to call. It has a crate and so an archive of its own: the run's loop and that of a moment that is shown both make
 // the machine's steps, and in one archive the compiler would no longer put the step into the run's loop, which made the run four times slower (on Arm).
+
+#![tactic(auto)]
+
 ghost use Rattle.exports.specs.Says.{SaysText};
 
 use exports::{ACCEPTED, Answer};

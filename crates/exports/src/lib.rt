@@ -1,4 +1,7 @@
 // The check and the run, for C and Rust to call; the text stands in exported_text, reading and writing in exported_reading. `rigvanesh.h` says in C's words what they are.
+
+#![tactic(auto)]
+
 ghost use Rattle.std.specs.Prelude.{◌≡◌};
 ghost use Rattle.l1.specs.Judge.{type_no};
 ghost use Rattle.routine.specs.Says.{refusal_of};

@@ -1,5 +1,8 @@
 // Whether a text is of the form of 01, and where it leaves it, in fixed room: one pass forward at any nesting, with a scan backwards where the table of levels
 // has run empty.
+
+#![tactic(auto)]
+
 ghost use Rattle.std.specs.Prelude.{true, ◌∷◌, ◌≡◌, ℕ, ◌+◌, ◌<◌, ◌≤◌, length, get_or};
 ghost use Rattle.text_form.specs.Digits.{digit, nonzero};
 ghost use Rattle.text_form.specs.Automaton.{natural, positive};

@@ -1,4 +1,7 @@
 // Standard input, for the programs: an input that ends is told apart from one that can't be read.
+
+#![tactic(auto)]
+
 ghost use Rattle.io.specs.Counts.{IsPrefixLen};
 
 use libc::STDIN_FILENO;

@@ -159,6 +159,7 @@ pub data Each (P : Expr → Type 0) : List Expr → Type 0 where
 pub each_among : {P : Expr → Type 0} {cs : List Expr} {f : ℕ} {c : Expr} → Each P cs → Among cs f c → P c
 each_among (p and h) here = p
 each_among (p and h) (beyond a) = each_among h a
+each_among {P = P} {f = f} {c = c} nil x3 = elim x3 [ ]
 
 pub among_each : {P : Expr → Type 0} (cs : List Expr) → ((f : ℕ) (c : Expr) → Among cs f c → P c) → Each P cs
 among_each [] h = nil

@@ -27,10 +27,10 @@ unfoldable pub numbers_from : ℕ → List Expr → List ℕ
 numbers_from f [] = []
 numbers_from f (d ∷ ds) = f ∷ numbers_from (suc f) ds
 
-nth_number : (f : ℕ) {i j : ℕ} {ds : List Expr} {o : Op} {e₁ e₂ : Expr} → carried_from f ds ≡ numbers_from f ds → Nth ds i (e₁ ‹ o # j › e₂) → j ≡ f + i
+nth_number : (f : ℕ) {i j : ℕ} {ds : List Expr} {o : Op} {e₁ e₂ : Expr} → Nth ds i (e₁ ‹ o # j › e₂) → carried_from f ds ≡ numbers_from f ds → j ≡ f + i
 unfolding carried_from numbers_from
-nth_number f {j = j} h nth_zero = let q : j ≡ f = cc in omega arith
-nth_number f h (nth_suc {ds = ds} n) = let rest : carried_from (suc f) ds ≡ numbers_from (suc f) ds = cc in omega (arith, nth_number (suc f) rest n)
+nth_number f {j = j} nth_zero h = let q : j ≡ f = cc in omega arith
+nth_number f (nth_suc {ds = ds} n) h = let rest : carried_from (suc f) ds ≡ numbers_from (suc f) ds = cc in omega (arith, nth_number (suc f) n rest)
 
 pub own_numbers : (e : Expr) → carried_from 0 (nodes e) ≡ numbers_from 0 (nodes e) → Numbered e
-own_numbers e h = record { own_number = λ n. omega (arith, nth_number 0 h n) }
+own_numbers e h = record { own_number = λ n. omega (arith, nth_number 0 n h) }

@@ -39,22 +39,32 @@ op_act (_, does_overflow p) y a b = (_, does_overflow (over_op1 p))
 op_act (_, does_end v) (_, does_step d) a b = (_, does_step (op2 v d))
 op_act (_, does_end v) (_, does_overflow p) a b = (_, does_overflow (over_op2 v p))
 op_act (_, does_end v_int) (_, does_end v_int) t_int t_int = numbers_act _ _ _ _
+op_act {Γ = Γ} {o = o} {i = i} {s = s} (_, does_end (v_int {n = n})) (_, does_end v_bool) a b = elim b [ ]
+op_act {Γ = Γ} {o = o} {i = i} {s = s} (_, does_end (v_int {n = n})) (_, does_end v_skip) a b = elim b [ ]
+op_act {Γ = Γ} {o = o} {i = i} {e₂ = e₂} {s = s} (_, does_end v_bool) (_, does_end _) a b = elim a [ ]
+op_act {Γ = Γ} {o = o} {i = i} {e₂ = e₂} {s = s} (_, does_end v_skip) (_, does_end _) a b = elim a [ ]
 
 assign_act : {Γ : TypeEnv} {l : Loc} {e : Expr} {s : Store} → l ∈dom s → SomeAct e s → Γ ⊢ e ∶ ty_int → SomeAct (l := e) s
 assign_act h (_, does_step d) a = (_, does_step (assign2 d))
 assign_act h (_, does_overflow p) a = (_, does_overflow (over_assign2 p))
 assign_act h (_, does_end v_int) t_int = (_, does_step (assign1 h))
+assign_act {Γ = Γ} {l = l} {s = s} h (_, does_end (v_bool {b = b})) a = elim a [ ]
+assign_act {Γ = Γ} {l = l} {s = s} h (_, does_end v_skip) a = elim a [ ]
 
 seq_act : {Γ : TypeEnv} {e₁ e₂ : Expr} {s : Store} → SomeAct e₁ s → Γ ⊢ e₁ ∶ ty_unit → SomeAct (e₁ ⨾ e₂) s
 seq_act (_, does_step d) a = (_, does_step (seq2 d))
 seq_act (_, does_overflow p) a = (_, does_overflow (over_seq2 p))
 seq_act (_, does_end v_skip) t_skip = (_, does_step seq1)
+seq_act {Γ = Γ} {e₂ = e₂} {s = s} (_, does_end (v_int {n = n})) a = elim a [ ]
+seq_act {Γ = Γ} {e₂ = e₂} {s = s} (_, does_end (v_bool {b = b})) a = elim a [ ]
 
 if_act : {Γ : TypeEnv} {e₁ e₂ e₃ : Expr} {s : Store} → SomeAct e₁ s → Γ ⊢ e₁ ∶ ty_bool → SomeAct (if e₁ then e₂ else e₃) s
 if_act (_, does_step d) a = (_, does_step (if3 d))
 if_act (_, does_overflow p) a = (_, does_overflow (over_if3 p))
 if_act (_, does_end (v_bool {b = true})) t_bool = (_, does_step if1)
 if_act (_, does_end (v_bool {b = false})) t_bool = (_, does_step if2)
+if_act {Γ = Γ} {e₂ = e₂} {e₃ = e₃} {s = s} (_, does_end (v_int {n = n})) a = elim a [ ]
+if_act {Γ = Γ} {e₂ = e₂} {e₃ = e₃} {s = s} (_, does_end v_skip) a = elim a [ ]
 
 pub some_act : {Γ : TypeEnv} {e : Expr} {T : Ty} {s : Store} → Covers Γ s → Γ ⊢ e ∶ T → SomeAct e s
 some_act c t_int = (_, does_end v_int)

@@ -1,4 +1,7 @@
 // The machine that makes the steps of the rules: pending places, the work, and one act at a time.
+
+#![tactic(auto)]
+
 mod acts;
 mod lent;
 mod run;

@@ -2,6 +2,9 @@
 //
 // A moment's text can be megabytes long, since each loop under way holds a copy of its body; so it is measured from a table of the nodes' lengths,
 // at a cost by its places alone, before it is written.
+
+#![tactic(auto)]
+
 ghost use Rattle.std.specs.Prelude.{◌≡◌, ◌++◌, ◌+◌, ◌≤◌, ◌<◌, length};
 ghost use Rattle.l1.specs.Text.{bytes, integer, text};
 ghost use Rattle.stored.specs.Answers.{Opens};

@@ -2,6 +2,9 @@
 //
 // Every writer asks for its room and returns the place after what it wrote. So none of them tests a bound, and a text that has no room is known
 // by its length before its first byte is written.
+
+#![tactic(auto)]
+
 ghost use Rattle.std.specs.Prelude.{◌≡◌, [], ◌∷◌, ◌++◌, ◌+◌, ◌%◌, ◌≤◌, ◌<◌, length, get_or};
 ghost use Rattle.l1.specs.Text.{bytes, decimal, integer, truth, location};
 ghost use Rattle.stored.specs.Layout.{child1, child2};

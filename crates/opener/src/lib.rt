@@ -1,4 +1,7 @@
 // Opens a stored routine: refusals 1 to 9, in 01's order.
+
+#![tactic(auto)]
+
 ghost use Rattle.std.specs.Prelude.{◌≡◌, ◌+◌, ◌≤◌, ◌<◌, max, cond, leb, length};
 ghost use Rattle.stored.specs.Layout.{node_start};
 ghost use Rattle.stored.specs.Refusals.{count};

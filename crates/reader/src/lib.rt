@@ -2,6 +2,9 @@
 //
 // A text is first read by descent, its nodes into a slice of this crate's own, since a refusal must leave the lent room as it was. Only a text of a tree
 // that a routine can hold passes; to any other the refusal is found by passes over its bytes, which need no room that grows with it.
+
+#![tactic(auto)]
+
 ghost use Rattle.std.specs.Prelude.{◌≡◌, ◌++◌, ◌∷◌, ◌+◌, ◌*◌, ◌/◌, ◌≤◌, ◌<◌, length};
 ghost use Rattle.node_text.specs.Put.{Put};
 ghost use Rattle.l1.specs.Text.{bytes};

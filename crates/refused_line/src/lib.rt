@@ -1,4 +1,7 @@
 // The line of a refusal, as the programs print it.
+
+#![tactic(auto)]
+
 ghost use Rattle.std.specs.Prelude.{◌≡◌, ◌+◌, ◌≤◌, length};
 ghost use Rattle.stored.specs.Trace.{refused_line};
 ghost use Rattle.routine.specs.Says.{refusal_of};

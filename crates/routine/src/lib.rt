@@ -1,4 +1,7 @@
 // What every part knows of a stored routine: why a row is refused, its sizes, and its nodes, read one by one from the caller's own bytes.
+
+#![tactic(auto)]
+
 ghost use Rattle.std.specs.Prelude.{◌≡◌, ◌+◌, ◌*◌, ◌≤◌, ◌<◌, length};
 ghost use Rattle.stored.specs.Bytes.{pair, unsigned, signed};
 ghost use Rattle.stored.specs.Layout.{node_start, kind, arg, child1, child2, child3};

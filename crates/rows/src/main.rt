@@ -1,6 +1,9 @@
 // `rows`: answers each record of a rows file on standard input. docs/ROWS.md has the form of a record and every line that it is answered with.
 //
 // Here is only the reading of records and the printing of lines: each question is answered by its crate. A write or a read that fails ends the program.
+
+#![tactic(auto)]
+
 ghost use Rattle.std.specs.Prelude.{◌≤◌, length};
 
 use record::Head;

@@ -1,4 +1,7 @@
 // Runs a stored routine on a lent store with fuel: refusals 1 to 9, 20 to 23 and 30, else the outcome with T and K.
+
+#![tactic(auto)]
+
 ghost use Rattle.std.specs.Prelude.{◌≤◌, length};
 ghost use Rattle.stored.specs.Refusals.{locations};
 ghost use Rattle.stored.specs.Answers.{Runs};

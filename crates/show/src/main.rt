@@ -2,6 +2,9 @@
 //
 // It reads one byte more than bytes 0-1 can tell, so that each input is answered as the library answers it whole. What it prints is `writer`'s and `refused_line`'s.
 // A text has at most 14 bytes for each of 4,096 nodes, so each has room in the buffer.
+
+#![tactic(auto)]
+
 use libc::{STDERR_FILENO, STDOUT_FILENO};
 use writer::Written;
 

@@ -5,6 +5,9 @@
 //
 // What a later row is to be told beside M, as its version or the types of its locations, has its place before M: options, words that begin with `--`, as no
 // number does. There is none yet, so each such word is wrong.
+
+#![tactic(auto)]
+
 ghost use Rattle.std.specs.Prelude.{◌≡◌, ◌≤◌, ◌<◌, length};
 ghost use Rattle.store.specs.Limits.{Within, InTail};
 

@@ -1,4 +1,7 @@
 // What `store` takes in: the text in its input, and the bytes of the fuel and of each value.
+
+#![tactic(auto)]
+
 ghost use Rattle.std.specs.Prelude.{◌≡◌, ◌+◌, ◌≤◌, ◌<◌, length, take};
 ghost use Rattle.io.specs.Counts.{IsPrefixLen};
 ghost use Rattle.node_text.specs.Put.{Put};

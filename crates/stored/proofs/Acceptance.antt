@@ -41,6 +41,14 @@ given_on_type {b} f l = by_stage _ _ f.of l
     by_stage c i (inr (n6, (inr (n5, (inr (n4, (inr (n3, (inr (n2, (inr (n1, (inl (given_at x)))))))))))))) l = absurd (omega arith)
     by_stage c i (inr (n9, (inr (n8, (inr (n7, (inr (n6, (inr (n5, (inr (n4, (inr (n3, (inr (n2, (inr (n1, (inl (given_one x)))))))))))))))))))) l = x
     by_stage c i (inr (n9, (inr (n8, (inr (n7, (inr (n6, (inr (n5, (inr (n4, (inr (n3, (inr (n2, (inr (n1, (inr (n, none)))))))))))))))))))) l = absurd none
+    by_stage c i (inl x'') l = elim x'' [ ]
+    by_stage c i (inr (n6, inl x7)) l = elim x7 [ ]
+    by_stage c i (inr (n6, inr (n5, inl x12))) l = elim x12 [ ]
+    by_stage c i (inr (n6, inr (n5, inr (n4, inl x17)))) l = elim x17 [ ]
+    by_stage c i (inr (n6, inr (n5, inr (n4, inr (n3, inl x22))))) l = elim x22 [ ]
+    by_stage c i (inr (n6, inr (n5, inr (n4, inr (n3, inr (n2, inl x27)))))) l = elim x27 [ ]
+    by_stage c i (inr (n9, inr (n8, inr (n7, inr (n6, inr (n5, inr (n4, inr (n3, inl x36)))))))) l = elim x36 [ ]
+    by_stage c i (inr (n9, inr (n8, inr (n7, inr (n6, inr (n5, inr (n4, inr (n3, inr (n2, inl x41))))))))) l = elim x41 [ ]
 
 -- the stored form of a tree that a routine can hold opens, and holds it
 stored_opens_to : {b : List ℕ} {m : ℕ} {e : Expr} → b ≡ stored m e → Storable m e → Opens b × Holds b e

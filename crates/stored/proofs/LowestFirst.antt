@@ -29,11 +29,13 @@ Ascending lo (A ∷ stages) = (hi : ℕ) × Between lo hi A × Ascending hi stag
 above : (stages : List Stage) (lo : ℕ) (r : Refusal) → Ascending lo stages → Applies stages r → lo ≤ number r
 above (A ∷ stages) lo r (hi, range, asc) (inl a) = range.low r a
 above (A ∷ stages) lo r (hi, range, asc) (inr x) = omega (arith, above stages hi r asc x, range.in_order)
+above [] lo r _ x3 = elim x3 [ ]
 
 module _ (r : Refusal) where
   applies : (stages : List Stage) → FirstOf stages r → Applies stages r
   applies (A ∷ stages) (inl a) = inl a
   applies (A ∷ stages) (inr (none, f)) = inr (applies stages f)
+  applies [] x' = elim x' [ ]
 
   lower : (stages : List Stage) (lo : ℕ) → AllSingle stages → Ascending lo stages → FirstOf stages r
       → (q : Refusal) → number q < number r → ¬ Applies stages q
@@ -41,6 +43,7 @@ module _ (r : Refusal) where
   lower (A ∷ stages) lo (one, ones) (hi, range, asc) (inl a) q l (inr x) = omega (arith, above stages hi q asc x, range.high r a)
   lower (A ∷ stages) lo (one, ones) (hi, range, asc) (inr (none, f)) q l (inl a) = none q a
   lower (A ∷ stages) lo (one, ones) (hi, range, asc) (inr (none, f)) q l (inr x) = lower stages hi ones asc f q l x
+  lower [] lo _ _ x7 q l _ = elim x7 [ ]
 
   first : (stages : List Stage) (lo : ℕ) → Ascending lo stages → Applies stages r
       → ((q : Refusal) → number q < number r → ¬ Applies stages q) → FirstOf stages r
@@ -50,6 +53,7 @@ module _ (r : Refusal) where
         λ q a. no_lower q (omega (arith, above stages hi r asc x, range.high q a)) (inl a),
         first stages hi asc x (λ q l y. no_lower q l (inr y)),
       )
+  first [] lo _ x4 no_lower = elim x4 [ ]
 
 first_iff_lowest : (stages : List Stage) (lo : ℕ) {r : Refusal} → AllSingle stages → Ascending lo stages → First stages r ↔ Lowest stages r
 first_iff_lowest stages lo {r} one asc = (

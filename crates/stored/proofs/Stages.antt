@@ -61,6 +61,7 @@ first_unique stages {r} {r'} one f f' = go stages one f.of f'.of
     go (A ∷ stages) (one, more) (inl a) (inr (none, f)) = absurd (none r a)
     go (A ∷ stages) (one, more) (inr (none, f)) (inl a) = absurd (none r' a)
     go (A ∷ stages) (one, more) (inr (none, f)) (inr (none', f')) = go stages more f f'
+    go [] _ x4 _ = elim x4 [ ]
 
 pub passes_none : {stages : List Stage} {r : Refusal} → Passes stages → ¬ First stages r
 passes_none {stages} {r} p f = go stages p.all_silent f.of
@@ -68,6 +69,7 @@ passes_none {stages} {r} p f = go stages p.all_silent f.of
     go : (stages : List Stage) → AllSilent stages → ¬ FirstOf stages r
     go (A ∷ stages) (none, more) (inl a) = none r a
     go (A ∷ stages) (none, more) (inr (none', f)) = go stages more f
+    go [] _ x3 = elim x3 [ ]
 
 -- ---- stage by stage
 
@@ -116,6 +118,7 @@ module _ (former latter : List Stage) where
       go : (former : List Stage) → FirstOf former r → FirstOf (former ++ latter) r
       go (A ∷ former) (inl a) = inl a
       go (A ∷ former) (inr (none, f)) = inr (none, go former f)
+      go [] x' = elim x' [ ]
 
   pub first_latter : {r : Refusal} → Passes former → First latter r → First (former ++ latter) r
   first_latter {r} p f = record { of = go former p.all_silent }

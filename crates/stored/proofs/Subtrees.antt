@@ -7,7 +7,7 @@ use mathlib.Core.List.{List, [], ◌∷◌, ◌++◌}
 use lib.ListN.{length, length-append}
 use Rattle.l1.specs.Syntax.{Expr}
 use Rattle.l1.specs.Measures.{size}
-use Rattle.l1.specs.Refused.{nodes, Nth, nth_zero}
+use Rattle.l1.specs.Refused.{nodes, Nth, nth_zero, nth_suc}
 use Rattle.l1.proofs.Nodes.{nth_append, nodes_length}
 use Rattle.stored.specs.Layout.{TreeAt, at_int, at_bool, at_op, at_if, at_assign, at_deref, at_skip, at_seq, at_while}
 
@@ -33,6 +33,7 @@ module _ (b : List ℕ) where
     where
       alone : {j : ℕ} {c : Expr} → Nth (d ∷ []) j c → TreeAt b (f + j) c
       alone nth_zero = let q : f + 0 ≡ i = omega arith in rw q t
+      alone {c = c} (nth_suc x5) = elim x5 [ ]
 
   both_stand : (ds cs : List Expr) {f g : ℕ} → f + length ds ≡ g → Stand b f ds → Stand b g cs → Stand b f (ds ++ cs)
   both_stand ds cs {f} {g} e s t = record {

@@ -1,4 +1,7 @@
 // The two operators on integers of 32 bits: a sum that never wraps, and the comparison; and the number without its sign.
+
+#![tactic(auto)]
+
 ghost use Rattle.std.specs.Prelude.{◌≡◌, nat_abs};
 ghost use Rattle.std.specs.Int.Signed.{le_z};
 ghost use Rattle.sums.specs.Sum.{sum_of};

@@ -1,4 +1,7 @@
 // The text of a stored routine after k steps, into a lent buffer: refusals 1 to 9, 20 to 23, 30 and 32, else its length with T.
+
+#![tactic(auto)]
+
 ghost use Rattle.std.specs.Prelude.{◌≡◌, ◌≤◌, length, take};
 ghost use Rattle.stored.specs.Refusals.{locations, count};
 ghost use Rattle.stored.specs.Answers.{Writes};

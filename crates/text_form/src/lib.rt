@@ -1,1 +1,3 @@
 // The text form, read and written: definitions and laws alone. What there is to read is in specs/, and proofs/ has the laws.
+
+#![tactic(auto)]

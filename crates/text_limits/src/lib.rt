@@ -1,5 +1,8 @@
 // What 51, 52 and 5 refuse of a text that is known to be of the form, by passes over its bytes with no stack. The digits of a number are read once, up
 // to the one that passes the bound, so the time is linear in the text's length for any text.
+
+#![tactic(auto)]
+
 ghost use Rattle.std.specs.Prelude.{◌≡◌, ◌&&◌, ◌+◌, ◌≤◌, ◌<◌, ltb, length, get_or, drop};
 ghost use Rattle.text_form.specs.Digits.{digit};
 ghost use Rattle.text_limits.specs.Limits.{Finds, Counts};

@@ -1,6 +1,9 @@
 // `trace`: reads a routine, its fuel and its values on standard input, and prints the run, a line a moment, or the line of a refusal.
 //
 // It reads at most the 33,035 bytes that are looked at. What it prints is `trace_output`'s.
+
+#![tactic(auto)]
+
 use libc::STDERR_FILENO;
 
 fn main() {

@@ -1,4 +1,7 @@
 // What `trace` makes of its input: a refusal, or the routine, the fuel and the values.
+
+#![tactic(auto)]
+
 ghost use Rattle.std.specs.Prelude.{◌≡◌, min, length};
 ghost use Rattle.stored.specs.Refusals.{locations, routine, after_routine};
 ghost use Rattle.stored.specs.Trace.{fuel_in, store_in};

@@ -1,5 +1,7 @@
 // The lines that `trace` prints of a run, one after the other, into a lent buffer. It goes on from the last moment, and never starts again.
 
+#![tactic(auto)]
+
 ghost use Rattle.std.specs.Prelude.{◌≡◌, List, [], ◌++◌, ℕ, ◌+◌, ◌*◌, ◌≤◌, ◌<◌, length};
 ghost use Rattle.l1.specs.Store.{Store};
 ghost use Rattle.l1.specs.Text.{bytes, decimal};

@@ -2,6 +2,9 @@
 //
 // What it prints is proved in the crates below: here is only the writing, in large pieces. A write that fails ends it, and it answers whether all was
 // written.
+
+#![tactic(auto)]
+
 ghost use Rattle.std.specs.Prelude.{◌≡◌, false, List, ℕ, ◌≤◌, ◌<◌, length};
 ghost use Rattle.l1.specs.Store.{Store};
 ghost use Rattle.stored.specs.Refusals.{routine};

@@ -1,4 +1,7 @@
 // The line of a refusal of a text, as `store` prints it.
+
+#![tactic(auto)]
+
 ghost use Rattle.std.specs.Prelude.{◌≡◌, ◌+◌, ◌≤◌, length};
 ghost use Rattle.stored.specs.Trace.{refused_line};
 ghost use Rattle.node_text.specs.Put.{Put};

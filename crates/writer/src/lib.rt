@@ -1,4 +1,7 @@
 // The text of a stored routine, well typed or not, into a lent buffer: refusals 1 to 9 and 32, else its length.
+
+#![tactic(auto)]
+
 ghost use Rattle.std.specs.Prelude.{◌≡◌, ◌≤◌, length};
 ghost use Rattle.l1.specs.Text.{text};
 ghost use Rattle.text_form.specs.Showing.{Shows};
