@@ -5,7 +5,6 @@ use mathlib.Core.Path.{◌≡◌, ap}
 use mathlib.Core.Logic.{inl, inr, ⊎_elim}
 use mathlib.Core.List.{List}
 use lib.ListN.{length, drop}
-use Rattle.l1.specs.Syntax.{Expr}
 use Rattle.l1.specs.Measures.{size, places}
 use Rattle.stored.specs.Bytes.{byte, pair}
 use Rattle.stored.specs.Reader.{tree_at, StandBelow}

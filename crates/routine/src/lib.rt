@@ -89,7 +89,7 @@ pub struct Sizes {
 }
 
 // The forms of 01's table of kinds, and what is not in it.
-#[derive(Drop)]
+#[derive(Clone, Copy)]
 pub enum Form {
     Integer,
     Boolean,
@@ -105,7 +105,7 @@ pub enum Form {
 }
 
 // The eight bytes of a node: its form, the small argument, and the numbers of its children or, in bytes 4-7, its own number.
-#[derive(Drop)]
+#[derive(Clone, Copy)]
 pub struct Node {
     pub form: Form,
     pub arg: u8,
