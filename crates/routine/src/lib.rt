@@ -82,7 +82,7 @@ pub fn returned_by(r: Refusal) -> u64
 }
 
 // n and m of a routine that was opened.
-#[derive(Drop)]
+#[derive(Clone, Copy)]
 pub struct Sizes {
     pub nodes: usize,
     pub locations: u8,
