@@ -10,10 +10,10 @@ use Rattle.form.proofs.spelled.Statement.{statement}
 use Rattle.form.proofs.spelled.Tie as tie
 
 abbrev invariant-loop : tie.invariant-loop
-invariant-loop t i w then j₀ j = Fits t i w j
+invariant-loop t i w then' j₀ j = Fits t i w j
 
 abbrev decreases-loop : tie.decreases-loop
-decreases-loop t i w then j₀ j = length w - j
+decreases-loop t i w then' j₀ j = length w - j
 
 pub spelled_spec : {M : Type 1} → statement M
 spelled_spec =
