@@ -64,6 +64,7 @@ fn digit(n: u64) -> u8
 }
 
 // A number of any length, a call for each digit.
+#[tactic(auto, using(crate::proofs::NumberLengths::one_digit, crate::proofs::NumberLengths::more_digits, crate::proofs::Digits::put_one, crate::proofs::Digits::put_last))]
 fn put_long(n: u64, buf: &mut [u8], at: usize) -> usize
     requires { at + length (decimal n) ≤ length buf.old }
     ensures { Put buf.old at (decimal n) buf.new result }
