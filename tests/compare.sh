@@ -10,7 +10,7 @@
 #
 # For each thousand rows of a kind there are 4,120 texts, 100 of them at the limits and 20 long ones, and a thousand rows that are written: 206,000 texts without the word.
 #
-# It needs rustc, and builds the programs with `rt check rows trace store show`: where nothing is proved yet, that proves all that they stand on, which takes minutes. RUN
+# It needs rustc, and builds the programs with `sh tools/build.sh rows trace store show`: where nothing is proved yet, that proves all that they stand on, which takes minutes. RUN
 # is put before each program, for a machine that needs an emulator.
 set -e
 cd "$(dirname "$0")/.."
@@ -18,7 +18,7 @@ each=${1:-50000} seed=${2:-1} chunk=1000
 work=target/compare program=target/bin/rows
 mkdir -p "$work"
 rustc --edition 2021 -O -o "$work/reference" tests/reference/main.rs
-rt check rows trace store show >&2
+sh tools/build.sh rows trace store show >&2
 if ! $RUN "$program" </dev/null >/dev/null 2>&1; then
     cat >&2 <<END
 $program is compiled for x86-64 Linux and can't be run here. Set RUN to a command that runs such programs: it is put before the program.

@@ -5,7 +5,7 @@
 #
 #     sh tests/examples.sh
 #
-# It needs xxd, and the programs in target/bin (`rt check rows trace store show`). RUN is put before each program, for a machine that needs an emulator.
+# It needs xxd, and the programs in target/bin (`sh tools/build.sh rows trace store show`). RUN is put before each program, for a machine that needs an emulator.
 set -e
 cd "$(dirname "$0")/.."
 work=target/examples

@@ -7,7 +7,7 @@
 #
 # For each thousand rows of a kind there are 1,050 texts, 50 of them at the limits, and 500 rows that are written.
 #
-# It needs rustc and a C compiler for x86-64 Linux, and builds the three archives with `rt staticlib`: where nothing is proved yet, that proves all that they stand on,
+# It needs rustc and a C compiler for x86-64 Linux, and builds the three archives with `tools/build.sh`: where nothing is proved yet, that proves all that they stand on,
 # which takes minutes. CC is the C compiler, and RUN is put before the program, for a machine that needs another compiler and an emulator.
 set -e
 cd "$(dirname "$0")/../.."
@@ -15,9 +15,7 @@ each=${1:-5000} seed=${2:-1} chunk=1000
 work=target/c program=target/c/rows
 mkdir -p "$work"
 rustc --edition 2021 -O -o "$work/reference" tests/reference/main.rs
-rt staticlib exports >&2
-rt staticlib exported_text >&2
-rt staticlib exported_reading >&2
+sh tools/build.sh exports_c exported_text_c exported_reading_c >&2
 ${CC:-cc} -std=c11 -Wall -Wextra -Werror -O2 -I crates/exports -o "$program" tests/c/rows.c target/staticlib/libexports.a target/staticlib/libexported_text.a \
     target/staticlib/libexported_reading.a
 rows=0 texts=0 differ=0

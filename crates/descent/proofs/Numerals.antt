@@ -1,18 +1,17 @@
 -- A number is read digit by digit: what `number_at` has read, and what it finds.
-use Prim.Native.Nat.{ℕ, zero, suc, ◌+◌, ◌-◌, ◌*◌, ◌≤◌, ◌<◌}
+use Prim.Native.Nat.{ℕ, ◌+◌, ◌-◌, ◌*◌, ◌≤◌, ◌<◌}
 use native.Mathlib.Omega.{arith}
 use native.Mathlib.Decide.{dec_lt}
-use mathlib.Core.Path.{◌≡◌, refl, sym, ◌∙◌, ap}
-use mathlib.Core.Bool.{Bool, true, false, cond, ◌||◌, true≢false}
+use mathlib.Core.Path.{◌≡◌, refl, sym, ◌∙◌}
+use mathlib.Core.Bool.{true, false, ◌||◌, true≢false}
 use mathlib.Core.List.{List, [], ◌∷◌}
 use mathlib.Core.Option.{Option, none, some}
 use borrow.Author.Tests.{ltb-true, ltb-false, lt-ltb, le-ltb, ne_eqb}
-use lib.Dec.{eqb, ltb}
+use lib.Dec.{ltb}
 use lib.ListN.{length, get_or, drop}
 use Rattle.text_form.specs.Digits.{digit, nonzero, digits_of, beyond, value_from}
 use Rattle.text_form.specs.Parser as p
-use Rattle.descent.specs.Found.{Found, NumberAs}
-use Rattle.descent.specs.declared.Number.{Number}
+use Rattle.descent.specs.Found.{NumberAs}
 use Rattle.descent.proofs.Words.{in_range, past, not_past, front_at, from_here, behind_one, nowhere, somewhere}
 
 grows : (ds : List ℕ) (n : ℕ) → n ≤ value_from n ds

@@ -21,8 +21,7 @@ fn unread(r: Unread) -> Answer
 }
 
 // The word of out: the length of the routine.
-#[unsafe(no_mangle)]
-pub extern "C" fn rigvanesh_read(t: &[u8], m: usize, room: &mut [u8], out: &mut [u64; 1]) -> Answer
+pub fn rigvanesh_read(t: &[u8], m: usize, room: &mut [u8], out: &mut [u64; 1]) -> Answer
     ensures { SaysRead m t.now room.old out.old result out.new room.new }
 {
     match reader::read(t, m, room) {
@@ -35,8 +34,7 @@ pub extern "C" fn rigvanesh_read(t: &[u8], m: usize, room: &mut [u8], out: &mut 
 }
 
 // The word of out: the length of the text.
-#[unsafe(no_mangle)]
-pub extern "C" fn rigvanesh_write(b: &[u8], buf: &mut [u8], out: &mut [u64; 1]) -> Answer
+pub fn rigvanesh_write(b: &[u8], buf: &mut [u8], out: &mut [u64; 1]) -> Answer
     ensures { SaysWrite b.now buf.old out.old result out.new buf.new }
 {
     match writer::write(b, buf) {

@@ -9,14 +9,7 @@ use exports::{ACCEPTED, Answer};
 use text_after::Wrote;
 
 // The words of out: the length of the text, and T.
-#[unsafe(no_mangle)]
-pub extern "C" fn rigvanesh_text(
-    b: &[u8],
-    s: &[i32],
-    k: u32,
-    buf: &mut [u8],
-    out: &mut [u64; 2],
-) -> Answer
+pub fn rigvanesh_text(b: &[u8], s: &[i32], k: u32, buf: &mut [u8], out: &mut [u64; 2]) -> Answer
     ensures { SaysText b.now s.now k buf.old out.old result out.new buf.new }
 {
     match text_after::text(b, s, k, buf) {

@@ -1,4 +1,4 @@
-// The check and the run, for C and Rust to call; the text stands in exported_text, reading and writing in exported_reading. `rigvanesh.h` says in C's words what they are.
+// The check and the run, as C and Rust call them through the archive of `exports_c`; the text stands in exported_text, reading and writing in exported_reading. `rigvanesh.h` says in C's words what they are.
 
 #![tactic(auto)]
 
@@ -44,8 +44,7 @@ fn type_of(t: Ty) -> u64
 }
 
 // The words of out: the type, W, the read set and the write set.
-#[unsafe(no_mangle)]
-pub extern "C" fn rigvanesh_check(b: &[u8], out: &mut [u64; 4]) -> Answer
+pub fn rigvanesh_check(b: &[u8], out: &mut [u64; 4]) -> Answer
     ensures { SaysCheck b.now out.old result out.new }
 {
     match checker::check(b) {
@@ -86,8 +85,7 @@ fn word_of(e: Ending) -> u64
 }
 
 // The words of out: the kind of ending, its value or node, T and K.
-#[unsafe(no_mangle)]
-pub extern "C" fn rigvanesh_run(b: &[u8], s: &mut [i32], fuel: u32, out: &mut [u64; 4]) -> Answer
+pub fn rigvanesh_run(b: &[u8], s: &mut [i32], fuel: u32, out: &mut [u64; 4]) -> Answer
     ensures { SaysRun b.now s.old fuel out.old result out.new s.new }
 {
     match runner::run(b, s, fuel) {

@@ -3,15 +3,15 @@ use Prim.Native.Nat.{ℕ, zero, suc, ◌+◌, ◌≤◌, ◌<◌}
 use native.Mathlib.Omega.{arith}
 use native.Mathlib.Numerals.{add-one}
 use native.Mathlib.Decide.{dec_lt}
-use mathlib.Core.Path.{◌≡◌, refl, sym, ◌∙◌, ap}
-use mathlib.Core.Bool.{Bool, true, false, ◌&&◌, not, cond}
+use mathlib.Core.Path.{◌≡◌, refl}
+use mathlib.Core.Bool.{Bool, true, ◌&&◌, not, cond}
 use mathlib.Core.List.{List, [], ◌∷◌, ◌++◌}
-use mathlib.Core.Option.{Option, none, some}
+use mathlib.Core.Option.{none, some}
 use borrow.Author.Tests.{eq-eqb, ne_eqb, not-true, ltb-true}
 use lib.Dec.{eqb, ltb}
 use lib.ListN.{length, get_or, drop, length-append, get_or-eq_default}
 use lib.Seq.{drop-cons}
-use Rattle.text_form.specs.Automaton.{Sym, lit, word, begin, next, sticks, rest, total}
+use Rattle.text_form.specs.Automaton.{Sym, lit, word, begin, next, sticks, rest}
 use Rattle.text_form.proofs.Notation.{and_both}
 use Rattle.form.specs.Levels.{turned, levels}
 use Rattle.form.specs.Places.{At, Off, Fits}
@@ -111,7 +111,7 @@ pub word_on : {t : List ℕ} {i : ℕ} {ls : List ℕ} (w : List ℕ) (st : List
 word_on {i = i} [] st p f a = let e : i + 0 ≡ i = omega arith in rw e a
 word_on {i = i} (b ∷ w) st p f a =
     let s : i + 1 + length w ≡ i + suc (length w) = omega arith in
-    rw s at (word_on w st (and_both (plain_byte b) (plain w) p).1 (fits_tail f) (first_on b w st p (fits_first f) a))
+    rw s at (word_on {i = i + 1} w st (and_both (plain_byte b) (plain w) p).1 (fits_tail f) (first_on b w st p (fits_first f) a))
 
 pub word_off : {t : List ℕ} {i r : ℕ} {ls : List ℕ} (w : List ℕ) (st : List Sym) → plain w ≡ true → Fits t i w r → r < length w
     → (get_or t (i + r) 256 ≡ get_or w r 0 → ⊥) → At t i (word w st) ls → Off t (i + r)
@@ -122,4 +122,4 @@ word_off {t} {i} {r = zero} (b ∷ w) st p f l n a =
     rw z (stuck a refl (rw (ne_eqb (get_or t i 256) b (λ e. n (rw z e)))))
 word_off {i = i} {r = suc r} (b ∷ w) st p f l n a =
     let s : i + 1 + r ≡ i + suc r = omega arith in
-    rw s at (word_off w st (and_both (plain_byte b) (plain w) p).1 (fits_tail f) (omega arith) (λ e. n (rw s at e)) (first_on b w st p (fits_first f) a))
+    rw s at (word_off {i = i + 1} w st (and_both (plain_byte b) (plain w) p).1 (fits_tail f) (omega arith) (λ e. n (rw s at e)) (first_on b w st p (fits_first f) a))

@@ -12,7 +12,7 @@ use lib.ListN.{length, get_or}
 use Rattle.text_form.specs.Automaton.{Stop, code, Sym, lit, natural, positive, more, begin, next}
 use Rattle.text_form.specs.Digits.{digit, nonzero}
 use Rattle.form.specs.Levels.{turned}
-use Rattle.form.specs.Places.{At, Off, Fits, Spelled, spelt, Digits, Number}
+use Rattle.form.specs.Places.{At, Fits, Spelled, spelt, Digits, Number}
 use Rattle.form.specs.declared.Token.{Token}
 use Rattle.text_form.proofs.Notation.{and_both}
 use Rattle.form.proofs.Bytes.{not_past, byte, swap, stuck}

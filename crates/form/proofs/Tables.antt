@@ -2,7 +2,6 @@
 use Prim.Native.Nat.{ℕ, zero, suc, ◌+◌, ◌-◌, ◌≤◌, ◌<◌}
 use native.Mathlib.Omega.{arith}
 use native.Mathlib.Decide.{dec_lt}
-use native.Mathlib.Numerals.{add-one}
 use mathlib.Core.Path.{◌≡◌, refl, sym, ◌∙◌, ap}
 use mathlib.Core.Bool.{Bool, true, false}
 use mathlib.Core.List.{List, [], ◌∷◌}
@@ -10,9 +9,8 @@ use borrow.Author.Tests.{ne_eqb}
 use lib.ListN.{length, get_or, drop, set, length-set}
 use lib.Seq.{get_or-set_same, get_or-set_other, get_or-drop, drop-drop, drop-nil}
 use Rattle.form.specs.Levels.{goal, all, place_at, turned, levels, Stacked, bottom, up}
-use Rattle.form.specs.Places.{At, Off, Fine, State, Entered, Told, wrong, value, opens, inside, closed, ended}
-use Rattle.form.specs.Table.{Kept, Outer, Pushes, Turns}
-use Rattle.form.specs.declared.Token.{Token}
+use Rattle.form.specs.Places.{At, Off, Fine, State, Told, wrong, value, opens, inside, closed, ended}
+use Rattle.form.specs.Table.{Kept, Outer, Pushes}
 use Rattle.form.specs.declared.Token.TheVariants.{Wrong, Value, Opened, Inside, Closed, Ended}
 
 -- ---- counting backwards: one byte b before j

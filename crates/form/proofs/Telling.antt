@@ -1,5 +1,5 @@
 -- What each token says, from what the bytes are.
-use Prim.Native.Nat.{ℕ, zero, suc, ◌+◌, ◌-◌, ◌≤◌, ◌<◌}
+use Prim.Native.Nat.{ℕ, ◌+◌, ◌-◌, ◌≤◌, ◌<◌}
 use native.Mathlib.Omega.{arith}
 use mathlib.Core.Path.{◌≡◌, refl, sym, ◌∙◌, ap}
 use mathlib.Core.Bool.{Bool, true, false}
@@ -9,10 +9,10 @@ use borrow.Author.Tests.{eqb-true, ne_eqb, le-ltb}
 use lib.Dec.{eqb, ltb}
 use lib.ListN.{length, get_or, drop, length-append, drop_of_length-le}
 use Rattle.l1.specs.Text.{bytes}
-use Rattle.text_form.specs.Automaton.{Stop, space, close, end, code, Sym, lit, wanted, natural, positive, opened, joint, word}
+use Rattle.text_form.specs.Automaton.{Stop, space, close, code, Sym, lit, wanted, natural, positive, opened, joint, word}
 use Rattle.text_form.specs.Automaton.{pick, choose, heads, within, before, starts, begin, next, sticks, rest}
-use Rattle.form.specs.Levels.{stop, after, has, wants, all, back, place_of, place_at, levels, Stacked, bottom, up}
-use Rattle.form.specs.Places.{At, Off, State, Fits, Spelled, spelt, broken, Number, Valued, valued, unvalued, Entered, Enters, enters, stays}
+use Rattle.form.specs.Levels.{stop, after, has, wants, all, back, place_of, levels}
+use Rattle.form.specs.Places.{At, State, Fits, Spelled, spelt, broken, Number, Valued, valued, unvalued, Enters, enters, stays}
 use Rattle.form.specs.Places.{Opens, Joins, Told, wrong, value, opens, inside, closed, ended, Wants}
 use Rattle.form.specs.declared.Token.{Token}
 use Rattle.form.specs.declared.Token.TheVariants.{Wrong, Value, Opened, Inside, Closed, Ended}
@@ -31,7 +31,7 @@ sooner h (enters k m l p) = enters k m (omega arith) p
 sooner h (stays o) = stays o
 
 -- a word behind which an expression at level m is to come
-into : {t : List ℕ} {i : ℕ} {st : List Sym} {ls : List ℕ} {x : ℕ → ℕ → Token} {r : Token} (w : List ℕ) (m n : ℕ)
+into : {t : List ℕ} {i : ℕ} {st : List Sym} {ls : List ℕ} {x : ℕ → ℕ → Token} (w : List ℕ) (m n : ℕ) {r : Token}
     → plain w ≡ true → shut w ls ≡ ls → n + 3 ≡ length w → place_of (get_or w (n + 2) 0) (get_or w n 0) ≡ m → 0 < m
     → At t i (word w (wants m st)) ls → Spelled t i w (x (i + length w) m) r → Enters t (i + 1) st ls x r
 into {i = i} {st = st} w m n p s e g l a (spelt f) =
@@ -128,7 +128,7 @@ module _ {t : List ℕ} {i x : ℕ} (hx : x ≡ get_or t i 256) where
       go (enters k m h n) = opens {k = k} (omega arith) n
       go (stays o) = wrong o
 
-  word_told : {r : Token} (b : ℕ) (w : List ℕ) → x ≡ b → ((c : Stop) (st : List Sym) → next (wanted c ∷ st) b ≡ next (word w (lit (code c) ∷ st)) b)
+  word_told : (b : ℕ) (w : List ℕ) {r : Token} → x ≡ b → ((c : Stop) (st : List Sym) → next (wanted c ∷ st) b ≡ next (word w (lit (code c) ∷ st)) b)
       → plain w ≡ true → ((ls : List ℕ) → shut w ls ≡ ls) → 0 < length w → Spelled t i w (Value (i + length w)) r → Wants t i r
   word_told b w e q p h z (spelt f) l s =
       value {k = i + length w} (omega arith) (rw (h (levels t i)) at (word_on w (has l (all (levels t i))) p f (swap s.at _ (sym hx ∙ e) (q (stop l) _))))
@@ -206,7 +206,7 @@ module _ {t : List ℕ} {i l : ℕ} (s : State t i l true) where
   pub has_turn : {r : Token} → l ≡ 5 → Spelled t i (bytes " do ") (Inside (i + 4) 6) r → Told t i l r
   has_turn e p = on (omega arith) (into (bytes " do ") 6 1 refl refl refl refl (omega arith) (rw e at s.at) p)
 
-  shuts : {r : Token} (w : List ℕ) → plain w ≡ true → shut w (levels t i) ≡ drop 1 (levels t i) → 0 < length w → 0 < l → At t i (word w (all (levels t i))) (levels t i)
+  shuts : (w : List ℕ) {r : Token} → plain w ≡ true → shut w (levels t i) ≡ drop 1 (levels t i) → 0 < length w → 0 < l → At t i (word w (all (levels t i))) (levels t i)
       → Spelled t i w (Closed (i + length w)) r → Told t i l r
   shuts w p h z n a (spelt f) = closed {k = i + length w} (omega arith) n (rw h at (word_on w (all (levels t i)) p f a))
   shuts w p h z n a (broken f k d) = wrong (word_off w (all (levels t i)) p f k d a)

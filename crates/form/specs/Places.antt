@@ -1,5 +1,5 @@
 -- What is to come at byte i of the text t, and what each part of the pass finds there.
-use Rattle.std.specs.Prelude.{ℕ, suc, ◌+◌, ◌≤◌, ◌<◌, ◌≡◌, Bool, true, false, List, [], ◌∷◌, ◌++◌, length, get_or, drop}
+use Rattle.std.specs.Prelude.{ℕ, ◌+◌, ◌≤◌, ◌<◌, ◌≡◌, Bool, false, List, ◌∷◌, length, get_or, drop}
 use Rattle.text_form.specs.Automaton.{Stop, code, Sym, lit, more, opened, joint, sticks, rest, total}
 use Rattle.form.specs.Levels.{has, wants, goal, all, place_at, levels, Stacked}
 use Rattle.form.specs.declared.Token.{Token}

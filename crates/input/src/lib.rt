@@ -4,7 +4,7 @@
 
 ghost use Rattle.io.specs.Counts.{IsPrefixLen};
 
-use libc::STDIN_FILENO;
+use std::io::Read;
 
 // How many bytes were read, and whether a read failed.
 #[derive(Drop)]
@@ -14,23 +14,25 @@ pub struct Got {
 }
 
 // Fills the room; with fewer bytes than it holds where the input ends, or where a read fails.
-pub fn fill(room: &mut [u8]) -> Got
+pub fn fill<R: Read>(from: &mut R, room: &mut [u8]) -> Got
     ensures { IsPrefixLen result.count room.new }
 {
     let mut done = 0;
     while done < room.len() {
-        let got = libc::read(STDIN_FILENO, &mut room[done..]);
-        if got < 0 {
-            return Got {
-                count: done,
-                failed: true,
-            };
+        match from.read(&mut room[done..]) {
+            Ok(more) => {
+                if more == 0 {
+                    break;
+                }
+                done += more;
+            }
+            Err(_) => {
+                return Got {
+                    count: done,
+                    failed: true,
+                };
+            }
         }
-        let more = io::count(got, &room[done..]);
-        if more == 0 {
-            break;
-        }
-        done += more;
     }
     Got {
         count: done,

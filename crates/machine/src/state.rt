@@ -9,7 +9,7 @@ ghost use Rattle.machine.specs.Acts.{grows_of, is_over, over_at, written, Within
 
 // A pending place: what waits for the value of the work. A number is the node that the place belongs to, but that of `Store` is the location
 // to write and that of `First` the node to go on with.
-#[derive(Drop)]
+#[derive(Clone, Copy)]
 pub enum Place {
     Blank,
     PlusLeft(u32),
@@ -22,7 +22,7 @@ pub enum Place {
     First(u32),
 }
 
-#[derive(Drop)]
+#[derive(Clone, Copy)]
 pub struct Frame {
     pub place: Place,
 }
@@ -35,7 +35,7 @@ pub struct Pending {
 }
 
 // The work: a node of the routine that is no literal, or a value.
-#[derive(Drop)]
+#[derive(Clone, Copy)]
 pub enum Work {
     Node(u64),
     Int(i32),
@@ -44,7 +44,7 @@ pub enum Work {
 }
 
 // Beside the work: T, K, and the number of the last step's rule.
-#[derive(Drop)]
+#[derive(Clone, Copy)]
 pub struct Machine {
     pub work: Work,
     pub steps: u64,
@@ -53,7 +53,7 @@ pub struct Machine {
 }
 
 // What becomes of the pending places and of the store.
-#[derive(Drop)]
+#[derive(Clone, Copy)]
 pub enum Act {
     Push,
     Rest,
@@ -62,7 +62,7 @@ pub enum Act {
 }
 
 // An act: the next work, what becomes of the places and the store, the place to push, and the number of the rule, 0 for a move of the search.
-#[derive(Drop)]
+#[derive(Clone, Copy)]
 pub struct Turn {
     pub work: Work,
     pub act: Act,
@@ -71,14 +71,14 @@ pub struct Turn {
 }
 
 // The machine after an act.
-#[derive(Drop)]
+#[derive(Clone, Copy)]
 pub struct Next {
     pub to: Machine,
     pub act: Act,
     pub top: Place,
 }
 
-#[derive(Drop)]
+#[derive(Clone, Copy)]
 pub enum Ending {
     Int(i32),
     Bool(bool),

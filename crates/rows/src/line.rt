@@ -1,6 +1,8 @@
 // The parts of a line. Each answers whether it was written.
-use libc::STDOUT_FILENO;
 use routine::Refusal;
+
+// The descriptor of standard output.
+pub const STDOUT_FILENO: i32 = 1;
 
 pub fn print(text: &[u8]) -> bool {
     io::write_all(STDOUT_FILENO, text)

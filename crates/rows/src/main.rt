@@ -7,6 +7,7 @@
 ghost use Rattle.std.specs.Prelude.{◌≤◌, length};
 
 use record::Head;
+use std::io::{Input, Read};
 
 mod checks;
 mod lent;
@@ -39,27 +40,27 @@ fn answer(h: Head, input: &[u8], store: &mut [i32], buf: &mut [u8]) -> bool
 }
 
 // Reads one record and answers it; false where the program ends.
-fn one_record(room: &mut [u8], store: &mut [i32], buf: &mut [u8]) -> bool
+fn one_record<R: Read>(from: &mut R, room: &mut [u8], store: &mut [i32], buf: &mut [u8]) -> bool
     requires { (70000 ≤ length room.old) × (1000 ≤ length store.old) × (65536 ≤ length buf.old) }
 {
     let mut head = [0u8; 9];
-    if !record::take_head(&mut head) {
+    if !record::take_head(from, &mut head) {
         return false;
     }
     let h = record::head_of(&head);
     let bytes = h.bytes;
     let entries = h.entries;
     if record::MOST_ENTRIES < entries {
-        return record::pass_over(room, 4 * entries + bytes)
+        return record::pass_over(from, room, 4 * entries + bytes)
             && line::print_fault(b"too many entries", entries as u64);
     }
     let values = bytes + 4;
     let end = values + 4 * entries;
     record::put_fuel(&head, room, bytes);
-    if !record::take(&mut room[values..end]) {
+    if !record::take(from, &mut room[values..end]) {
         return false;
     }
-    if !record::take(&mut room[..bytes]) {
+    if !record::take(from, &mut room[..bytes]) {
         return false;
     }
     let s = &mut store[..entries];
@@ -67,14 +68,15 @@ fn one_record(room: &mut [u8], store: &mut [i32], buf: &mut [u8]) -> bool
     answer(h, &room[..end], s, buf)
 }
 
-fn main() {
+fn main(rt: HostRuntime) {
     let mut room = [0u8; 70000];
     let mut store = [0i32; 1000];
     let mut buf = io::large_buffer();
     // no input has as many records as this
+    let mut from = rt.reader();
     let mut left: u64 = 18446744073709551615;
     while 0 < left {
-        if !one_record(&mut room, &mut store, &mut buf) {
+        if !one_record(&mut from, &mut room, &mut store, &mut buf) {
             return;
         }
         left -= 1;

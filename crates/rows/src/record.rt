@@ -4,7 +4,10 @@ ghost use Rattle.stored.specs.Bytes.{byte, pair};
 ghost use Rattle.stored.specs.Trace.{four};
 
 use input::Got;
-use libc::STDERR_FILENO;
+use std::io::Read;
+
+// The descriptor of standard error.
+const STDERR_FILENO: i32 = 2;
 
 // So many entries have room in the store.
 pub const MOST_ENTRIES: usize = 1000;
@@ -53,14 +56,14 @@ fn is_whole(got: Got, n: usize) -> bool {
 }
 
 // Reads a part of a record.
-pub fn take(part: &mut [u8]) -> bool {
-    let got = input::fill(part);
+pub fn take<R: Read>(from: &mut R, part: &mut [u8]) -> bool {
+    let got = input::fill(from, part);
     is_whole(got, part.len())
 }
 
 // Reads what stands before the entries; false also where the input ends before the record.
-pub fn take_head(head: &mut [u8]) -> bool {
-    let got = input::fill(head);
+pub fn take_head<R: Read>(from: &mut R, head: &mut [u8]) -> bool {
+    let got = input::fill(from, head);
     if (got.count == 0) & !got.failed {
         return false;
     }
@@ -68,17 +71,17 @@ pub fn take_head(head: &mut [u8]) -> bool {
 }
 
 // Reads n bytes that nobody looks at.
-pub fn pass_over(room: &mut [u8], n: usize) -> bool
+pub fn pass_over<R: Read>(from: &mut R, room: &mut [u8], n: usize) -> bool
     requires { 0 < length room.old }
 {
     let mut left = n;
     while room.len() < left {
-        if !take(room) {
+        if !take(from, room) {
             return false;
         }
         left -= room.len();
     }
-    take(&mut room[..left])
+    take(from, &mut room[..left])
 }
 
 // The four bytes of the fuel, to where the row ends: `trace` reads the row, the fuel and the values.

@@ -1,8 +1,8 @@
 // The line of a text that is stored as a row: the row's length and its bytes in hexadecimal, or the refusal.
 ghost use Rattle.std.specs.Prelude.{◌≤◌, ◌<◌, length};
 
+use crate::line::STDOUT_FILENO;
 use crate::{lent, line};
-use libc::STDOUT_FILENO;
 use reader::Taken;
 
 // A number below 16 as a digit, with small letters.

@@ -3,8 +3,8 @@
 // refusal: any byte) is no longer what it was.
 ghost use Rattle.std.specs.Prelude.{◌≤◌, length};
 
+use crate::line::STDOUT_FILENO;
 use crate::{lent, line};
-use libc::STDOUT_FILENO;
 use text_after::Wrote;
 
 // What a call left: the text's length, 0 after a refusal, and whether its line was printed.

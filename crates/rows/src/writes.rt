@@ -1,6 +1,6 @@
 // The line of a row that is written as its text: the length and the text, or the refusal.
+use crate::line::STDOUT_FILENO;
 use crate::{lent, line};
-use libc::STDOUT_FILENO;
 use writer::Written;
 
 fn print_text(text: &[u8]) -> bool {

@@ -5,8 +5,14 @@
 
 #![tactic(auto)]
 
-use libc::{STDERR_FILENO, STDOUT_FILENO};
+use std::io::Input;
 use writer::Written;
+
+// The descriptor of standard output.
+const STDOUT_FILENO: i32 = 1;
+
+// The descriptor of standard error.
+const STDERR_FILENO: i32 = 2;
 
 // The text and a line end, or the line of a refusal.
 fn print(b: &[u8], buf: &mut [u8]) {
@@ -24,13 +30,14 @@ fn print(b: &[u8], buf: &mut [u8]) {
     }
 }
 
-fn main() {
-    if 1 < os::arg_count() {
+fn main(rt: HostRuntime) {
+    if 1 < words::count(&rt) {
         io::write_all(STDERR_FILENO, b"usage: show < row\n");
         return;
     }
     let mut room = [0u8; 65538];
-    let got = input::fill(&mut room);
+    let mut from = rt.reader();
+    let got = input::fill(&mut from, &mut room);
     if got.failed {
         io::write_all(STDERR_FILENO, b"show: the input could not be read\n");
         return;

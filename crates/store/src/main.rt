@@ -12,32 +12,39 @@ ghost use Rattle.std.specs.Prelude.{◌≡◌, ◌≤◌, ◌<◌, length};
 ghost use Rattle.store.specs.Limits.{Within, InTail};
 
 use arguments::Number;
-use libc::{STDERR_FILENO, STDOUT_FILENO};
 use reader::Taken;
+use std::env::Env;
+use std::io::{Input, Read};
+
+// The descriptor of standard output.
+const STDOUT_FILENO: i32 = 1;
+
+// The descriptor of standard error.
+const STDERR_FILENO: i32 = 2;
 
 // Word i as a number from 0 to `top`. A word that is missing, or longer than any number, is empty here.
-fn natural_at(i: usize, top: u64) -> Number
+fn natural_at<E: Env>(rt: &E, i: usize, top: u64) -> Number
     requires { top < 4294967296 }
     ensures { Within top result }
 {
     let mut word = [0u8; 16];
-    let n = os::arg(i, &mut word);
+    let n = words::at(rt, i, &mut word);
     arguments::natural_in(&word[..n], top)
 }
 
-fn integer_at(i: usize) -> Number
+fn integer_at<E: Env>(rt: &E, i: usize) -> Number
     ensures { Within 4294967295 result }
 {
     let mut word = [0u8; 16];
-    let n = os::arg(i, &mut word);
+    let n = words::at(rt, i, &mut word);
     arguments::integer_in(&word[..n])
 }
 
 // Puts the fuel; whether its word is one.
-fn put_fuel(tail: &mut [u8]) -> bool
+fn put_fuel<E: Env>(rt: &E, tail: &mut [u8]) -> bool
     requires { 1024 ≤ length tail.old }
 {
-    match natural_at(2, 4294967295) {
+    match natural_at(rt, 2, 4294967295) {
         Number::Not => false,
         Number::Is(f) => {
             store_input::put_four(f, tail, 0);
@@ -47,10 +54,10 @@ fn put_fuel(tail: &mut [u8]) -> bool
 }
 
 // Puts value i, as far as a row can have it; whether its word is one.
-fn put_value(i: usize, tail: &mut [u8]) -> bool
+fn put_value<E: Env>(rt: &E, i: usize, tail: &mut [u8]) -> bool
     requires { (i < 4294967295) × (1024 ≤ length tail.old) }
 {
-    match integer_at(3 + i) {
+    match integer_at(rt, 3 + i) {
         Number::Not => false,
         Number::Is(v) => {
             if i < 255 {
@@ -62,15 +69,15 @@ fn put_value(i: usize, tail: &mut [u8]) -> bool
 }
 
 // The fuel and m values; whether all words are such.
-fn put_tail(m: usize, tail: &mut [u8]) -> bool
+fn put_tail<E: Env>(rt: &E, m: usize, tail: &mut [u8]) -> bool
     requires { (m ≤ 4294967295) × (1024 ≤ length tail.old) }
 {
-    if !put_fuel(tail) {
+    if !put_fuel(rt, tail) {
         return false;
     }
     let mut i = 0;
     while i < m {
-        if !put_value(i, tail) {
+        if !put_value(rt, i, tail) {
             return false;
         }
         i += 1;
@@ -85,18 +92,18 @@ enum Asked {
     Row(usize, usize),
 }
 
-fn ask_with(m: usize, tail: &mut [u8]) -> Asked
+fn ask_with<E: Env>(rt: &E, m: usize, tail: &mut [u8]) -> Asked
     requires { (m ≤ 4294967295) × (1024 ≤ length tail.old) }
     ensures { InTail result }
 {
-    let words = os::arg_count();
+    let words = words::count(rt);
     if words == 2 {
         return Asked::Row(m, 0);
     }
     if words != 3 + m {
         return Asked::Wrong;
     }
-    if !put_tail(m, tail) {
+    if !put_tail(rt, m, tail) {
         return Asked::Wrong;
     }
     // what is refused by 4 has nothing behind it
@@ -106,13 +113,13 @@ fn ask_with(m: usize, tail: &mut [u8]) -> Asked
     Asked::Row(m, 4 + 4 * m)
 }
 
-fn ask(tail: &mut [u8]) -> Asked
+fn ask<E: Env>(rt: &E, tail: &mut [u8]) -> Asked
     requires { 1024 ≤ length tail.old }
     ensures { InTail result }
 {
-    match natural_at(1, 4294967295) {
+    match natural_at(rt, 1, 4294967295) {
         Number::Not => Asked::Wrong,
-        Number::Is(m) => ask_with(m as usize, tail),
+        Number::Is(m) => ask_with(rt, m as usize, tail),
     }
 }
 
@@ -139,9 +146,9 @@ fn text_room() -> [u8; 1048578]
     [0; 1048578]
 }
 
-fn store(m: usize, tail: &[u8]) {
+fn store<R: Read>(from: &mut R, m: usize, tail: &[u8]) {
     let mut room = text_room();
-    let got = input::fill(&mut room);
+    let got = input::fill(from, &mut room);
     if got.failed {
         io::write_all(STDERR_FILENO, b"store: the input could not be read\n");
         return;
@@ -156,15 +163,18 @@ fn store(m: usize, tail: &[u8]) {
     print(&room[..end], m, &mut row, tail);
 }
 
-fn main() {
+fn main(rt: HostRuntime) {
     let mut tail = [0u8; 1024];
-    match ask(&mut tail) {
+    match ask(&rt, &mut tail) {
         Asked::Wrong => {
             io::write_all(
                 STDERR_FILENO,
                 b"usage: store M [FUEL V0 V1 ..] < text > row\n",
             );
         }
-        Asked::Row(m, bytes) => store(m, &tail[..bytes]),
+        Asked::Row(m, bytes) => {
+            let mut from = rt.reader();
+            store(&mut from, m, &tail[..bytes])
+        }
     }
 }

@@ -30,10 +30,12 @@ clash e = absurd (let z : ◌≡◌ {A = ℕ} 0 1 = cc in omega arith)
 pub not_blank : (w : List ℕ) {j : ℕ} → Marked (blank w) j → ⊥
 not_blank (b ∷ w) (here e) = clash e
 not_blank (b ∷ w) (there h) = not_blank w h
+not_blank [] {j = j} x' = elim x' [ ]
 
 first_marked : {x : Bool} (ds : List ℕ) {j : ℕ} → Marked (first x ds) j → (x ≡ true) × (j ≡ 0)
 first_marked (d ∷ ds) (here e) = (e, refl)
 first_marked (d ∷ ds) (there h) = absurd (not_blank ds h)
+first_marked [] {j = j} x'' = elim x'' [ ]
 
 left : {m : List Bool} {j : ℕ} (n : List Bool) → Marked m j → Marked (m ++ n) j
 left n (here e) = here e

@@ -4,11 +4,15 @@
 
 #![tactic(auto)]
 
-use libc::STDERR_FILENO;
+use std::io::Input;
 
-fn main() {
+// The descriptor of standard error.
+const STDERR_FILENO: i32 = 2;
+
+fn main(rt: HostRuntime) {
     let mut room = [0u8; 33035];
-    let got = input::fill(&mut room);
+    let mut from = rt.reader();
+    let got = input::fill(&mut from, &mut room);
     if got.failed {
         io::write_all(STDERR_FILENO, b"trace: the input could not be read\n");
         return;

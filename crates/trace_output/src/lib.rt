@@ -14,10 +14,12 @@ ghost use Rattle.moment_text.specs.Stand.{Measured};
 ghost use Rattle.trace_lines.specs.Lines.{LinesAt};
 ghost use Rattle.trace_input.specs.Says.{Admitted};
 
-use libc::STDOUT_FILENO;
 use routine::Sizes;
 use trace_input::Taken;
 use trace_lines::Page;
+
+// The descriptor of standard output.
+const STDOUT_FILENO: i32 = 1;
 
 // Writes page after page, the first of them in the buffer already, until the last line is out.
 fn print_pages(

@@ -1,0 +1,13 @@
+-- Only a sequence gives its second side a place more: no kind of two sides is an if.
+use Rattle.std.proofs.Common.{arith, refl}
+use borrow.Author.Tests.{ne_eqb}
+use Rattle.text_form.specs.Parser.{besides}
+use Rattle.descent.proofs.besides.Goals as goal
+
+pub returns-then-kind-eq8 : goal.returns-then-kind-eq8
+unfolding besides
+returns-then-kind-eq8 c = rw c.if-kind-eq8.true (omega arith)
+
+pub returns-else-kind-eq8 : goal.returns-else-kind-eq8
+unfolding besides
+returns-else-kind-eq8 c = rw (ne_eqb c.args.kind 4 c.requires.1, ne_eqb c.args.kind 8 c.if-kind-eq8.false) refl

@@ -1,0 +1,10 @@
+-- One entry more: the level of the next bracket outward.
+use Rattle.std.proofs.Common.{arith}
+use Rattle.std.proofs.Math.ListN.{length-set}
+use Rattle.form.proofs.Tables.{filling_on}
+use Rattle.form.proofs.refill.Goals as goal
+
+pub loop-j-preserved : goal.loop-j-preserved
+loop-j-preserved c =
+    let v = c.loop-j.invariant in
+    (filling_on _ v.0 (omega arith) c.outer-p.ensures c.place_at.ensures, simp length-set v.1, v.2)
