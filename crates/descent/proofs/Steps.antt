@@ -9,7 +9,7 @@ use borrow.Author.Tests.{ne_eqb}
 use lib.Dec.{eqb}
 use lib.ListN.{length, get_or, drop}
 use lib.Seq.{length-sets}
-use Rattle.l1.specs.Syntax.{Expr, if◌then◌else◌, ◌:=◌}
+use Rattle.l1.specs.Syntax.{Expr, if◌then'◌else◌, ◌:=◌}
 use Rattle.l1.specs.Measures.{size}
 use Rattle.l1.specs.Text.{bytes}
 use Rattle.l1.proofs.Nodes.{size_positive}
@@ -44,7 +44,7 @@ if_steps k =
     word (bytes "if ") (part k (λ e₁.
     word (bytes " then ") (part (k + 1) (λ e₂.
     word (bytes " else ") (part (k + 1) (λ e₃.
-    word (bytes ")") (root (λ n. if e₁ then e₂ else e₃))))))))
+    word (bytes ")") (root (λ n. if e₁ then' e₂ else e₃))))))))
 
 abbrev pub while_steps : ℕ → Steps
 while_steps k = word (bytes "while ") (part k (λ e₁. word (bytes " do ") (part k (λ e₂. word (bytes " done)") (root (λ n. two_parts 9 n e₁ e₂))))))
@@ -184,7 +184,7 @@ pub record Rooted (f : ℕ) (e : Expr) (ws b : List ℕ) (n : ℕ) : Type 0 wher
   last : n + 1 ≡ f + size e
 
 pub if_rooted : {f n m k : ℕ} {e₁ e₂ e₃ : Expr} → Counts f e₁ n → Counts n e₂ m → Counts m e₃ k
-    → Rooted f (if e₁ then e₂ else e₃) ((bytes_from f e₁ ++ bytes_from n e₂) ++ bytes_from m e₃) (node_bytes 4 0 (n - 1) (m - 1) (k - 1)) k
+    → Rooted f (if e₁ then' e₂ else e₃) ((bytes_from f e₁ ++ bytes_from n e₂) ++ bytes_from m e₃) (node_bytes 4 0 (n - 1) (m - 1) (k - 1)) k
 unfolding bytes_from
 if_rooted x y z = let a = x.count in let b = y.count in let c = z.count in record { all = rw (c, b, a) (simp append_assoc); last = omega arith }
 

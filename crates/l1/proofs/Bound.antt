@@ -5,7 +5,7 @@
 use Prim.Native.Nat.{ℕ, ◌+◌, ◌*◌, ◌≤◌, max}
 use native.Mathlib.Nat.{add-mul}
 use native.Mathlib.Omega.{arith}
-use Rattle.l1.specs.Syntax.{Expr, int, bool, ◌‹◌#◌›◌, if◌then◌else◌, ◌:=◌, !◌, skip, ◌⨾◌, while◌do'◌done}
+use Rattle.l1.specs.Syntax.{Expr, int, bool, ◌‹◌#◌›◌, if◌then'◌else◌, ◌:=◌, !◌, skip, ◌⨾◌, while◌do'◌done}
 use Rattle.l1.specs.Store.{Store}
 use Rattle.l1.specs.Steps.{Rule, ⟨◌∣◌⟩⟶⟨◌∣◌⟩◌, op+, op≥, op1, op2, deref, assign1, assign2, seq1, seq2, if1, if2, if3, while}
 use Rattle.l1.specs.Run.{whiles, Run, stay, more}
@@ -16,7 +16,7 @@ abbrev largest_loop : Expr → ℕ
 largest_loop (int n) = 0
 largest_loop (bool b) = 0
 largest_loop (e₁ ‹ o # i › e₂) = max (largest_loop e₁) (largest_loop e₂)
-largest_loop (if e₁ then e₂ else e₃) = max (largest_loop e₁) (max (largest_loop e₂) (largest_loop e₃))
+largest_loop (if e₁ then' e₂ else e₃) = max (largest_loop e₁) (max (largest_loop e₂) (largest_loop e₃))
 largest_loop (l := e) = largest_loop e
 largest_loop (! l) = 0
 largest_loop skip = 0
@@ -27,7 +27,7 @@ loop_within_work : (e : Expr) → largest_loop e ≤ working e
 loop_within_work (int n) = omega arith
 loop_within_work (bool b) = omega arith
 loop_within_work (e₁ ‹ o # i › e₂) = omega (arith, loop_within_work e₁, loop_within_work e₂)
-loop_within_work (if e₁ then e₂ else e₃) = omega (arith, loop_within_work e₁, loop_within_work e₂, loop_within_work e₃)
+loop_within_work (if e₁ then' e₂ else e₃) = omega (arith, loop_within_work e₁, loop_within_work e₂, loop_within_work e₃)
 loop_within_work (l := e) = omega (arith, loop_within_work e)
 loop_within_work (! l) = omega arith
 loop_within_work skip = omega arith

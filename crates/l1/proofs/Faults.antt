@@ -9,7 +9,7 @@ use mathlib.Core.List.{List, [], ◌∷◌}
 use lib.Dec.{eqb, ltb}
 use lib.ListN.{length}
 use borrow.Author.Tests.{ltb-true, ltb-false, eqb-true, eqb-false}
-use Rattle.l1.specs.Syntax.{Op, plus, geq, Loc, Expr, int, bool, ◌‹◌#◌›◌, if◌then◌else◌, ◌:=◌, !◌, skip, ◌⨾◌, while◌do'◌done}
+use Rattle.l1.specs.Syntax.{Op, plus, geq, Loc, Expr, int, bool, ◌‹◌#◌›◌, if◌then'◌else◌, ◌:=◌, !◌, skip, ◌⨾◌, while◌do'◌done}
 use Rattle.l1.specs.Syntax.{Ty, ty_int, ty_bool, ty_unit}
 use Rattle.l1.specs.Typing.{TypeEnv, ◌declares◌, ◌⊢◌∶◌, t_int, t_bool, t_op+, t_op≥, t_if, t_assign, t_deref, t_skip, t_seq, t_while}
 use Rattle.l1.specs.Refused.{Nth, nth_zero, nth_suc, Fails, undeclared_assign, undeclared_deref, first_op, first_if, first_assign, first_seq}
@@ -125,7 +125,7 @@ ruled Γ (e₁ ‹ o # i › e₂) (a and b and nil) =
     wants_cases (Ruled Γ _) ty_int e₁ 21 _
     (λ q. wants_cases (Ruled Γ _) ty_int e₂ 22 0 (λ r. keeps (op_typed o (rw q at a) (rw r at b))) (λ n. breaks (second_op b n)))
     (λ n. breaks (first_op a n))
-ruled Γ (if e₁ then e₂ else e₃) (a and b and c and nil) =
+ruled Γ (if e₁ then' e₂ else e₃) (a and b and c and nil) =
     wants_cases (Ruled Γ _) ty_bool e₁ 21 _
     (λ q. wants_cases (Ruled Γ _) (rule_type e₂) e₃ 23 0 (λ r. keeps (t_if (rw q at a) b (rw r at c))) (λ n. breaks (branches_if b c λ r. n (sym r))))
     (λ n. breaks (first_if a n))

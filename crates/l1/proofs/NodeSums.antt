@@ -6,7 +6,7 @@ use native.Mathlib.Omega.{arith}
 use mathlib.Core.Path.{◌≡◌, refl, ap}
 use mathlib.Core.List.{List, [], ◌∷◌, ◌++◌, append_assoc, append-nil}
 use lib.ListN.{take}
-use Rattle.l1.specs.Syntax.{Loc, Expr, int, bool, ◌‹◌#◌›◌, if◌then◌else◌, ◌:=◌, !◌, skip, ◌⨾◌, while◌do'◌done}
+use Rattle.l1.specs.Syntax.{Loc, Expr, int, bool, ◌‹◌#◌›◌, if◌then'◌else◌, ◌:=◌, !◌, skip, ◌⨾◌, while◌do'◌done}
 use Rattle.l1.specs.Measures.{working}
 use Rattle.l1.specs.Sets.{Use, uses_of_deref, uses_of_assign, uses}
 use Rattle.l1.specs.Refused.{nodes, Nth, nth_zero, nth_suc}
@@ -16,7 +16,7 @@ abbrev pub own_work : Expr → ℕ
 own_work (int n) = 0
 own_work (bool b) = 0
 own_work (e₁ ‹ o # i › e₂) = 1
-own_work (if e₁ then e₂ else e₃) = 1
+own_work (if e₁ then' e₂ else e₃) = 1
 own_work (l := e) = 1
 own_work (! l) = 1
 own_work skip = 0
@@ -27,7 +27,7 @@ abbrev pub own_uses : Use → Expr → List Loc
 own_uses u (int n) = []
 own_uses u (bool b) = []
 own_uses u (e₁ ‹ o # i › e₂) = []
-own_uses u (if e₁ then e₂ else e₃) = []
+own_uses u (if e₁ then' e₂ else e₃) = []
 own_uses u (l := e) = uses_of_assign u l
 own_uses u (! l) = uses_of_deref u l
 own_uses u skip = []
@@ -65,7 +65,7 @@ pub working_sum : (e : Expr) → work_of (nodes e) ≡ working e
 working_sum (int n) = work_one (int n)
 working_sum (bool b) = work_one (bool b)
 working_sum (e₁ ‹ o # i › e₂) = simp (work_append, work_one, working_sum e₁, working_sum e₂) (omega arith)
-working_sum (if e₁ then e₂ else e₃) = simp (work_append, work_one, working_sum e₁, working_sum e₂, working_sum e₃) (omega arith)
+working_sum (if e₁ then' e₂ else e₃) = simp (work_append, work_one, working_sum e₁, working_sum e₂, working_sum e₃) (omega arith)
 working_sum (l := e) = simp (work_append, work_one, working_sum e) (omega arith)
 working_sum (! l) = work_one (! l)
 working_sum skip = work_one skip
@@ -76,7 +76,7 @@ pub uses_sum : (u : Use) (e : Expr) → uses_of u (nodes e) ≡ uses u e
 uses_sum u (int n) = uses_one u (int n)
 uses_sum u (bool b) = uses_one u (bool b)
 uses_sum u (e₁ ‹ o # i › e₂) = simp (uses_append, uses_one, uses_sum u e₁, uses_sum u e₂, append-nil)
-uses_sum u (if e₁ then e₂ else e₃) = simp (uses_append, uses_one, uses_sum u e₁, uses_sum u e₂, uses_sum u e₃, append-nil)
+uses_sum u (if e₁ then' e₂ else e₃) = simp (uses_append, uses_one, uses_sum u e₁, uses_sum u e₂, uses_sum u e₃, append-nil)
 uses_sum u (l := e) = simp (uses_append, uses_one, uses_sum u e)
 uses_sum u (! l) = uses_one u (! l)
 uses_sum u skip = uses_one u skip

@@ -6,7 +6,7 @@ use mathlib.Core.Path.{◌≡◌, refl, sym, ap, ◌∙◌}
 use mathlib.Core.Logic.{◌⊎◌, inl, inr, ⊎_elim}
 use mathlib.Core.List.{List, [], ◌∷◌, ◌++◌, append_assoc}
 use lib.ListN.{length, length-append}
-use Rattle.l1.specs.Syntax.{Expr, int, bool, ◌‹◌#◌›◌, if◌then◌else◌, ◌:=◌, !◌, skip, ◌⨾◌, while◌do'◌done}
+use Rattle.l1.specs.Syntax.{Expr, int, bool, ◌‹◌#◌›◌, if◌then'◌else◌, ◌:=◌, !◌, skip, ◌⨾◌, while◌do'◌done}
 use Rattle.l1.specs.Measures.{size}
 use Rattle.l1.specs.Refused.{nodes, Nth, nth_zero, nth_suc, Node}
 
@@ -41,7 +41,7 @@ pub nodes_length : (e : Expr) → length (nodes e) ≡ size e
 nodes_length (int n) = refl
 nodes_length (bool b) = refl
 nodes_length (e₁ ‹ o # i › e₂) = simp (length-append, nodes_length e₁, nodes_length e₂) (omega arith)
-nodes_length (if e₁ then e₂ else e₃) = simp (length-append, nodes_length e₁, nodes_length e₂, nodes_length e₃) (omega arith)
+nodes_length (if e₁ then' e₂ else e₃) = simp (length-append, nodes_length e₁, nodes_length e₂, nodes_length e₃) (omega arith)
 nodes_length (l := e) = simp (length-append, nodes_length e) (omega arith)
 nodes_length (! l) = refl
 nodes_length skip = refl
@@ -56,7 +56,7 @@ abbrev pub children : Expr → List Expr
 children (int n) = []
 children (bool b) = []
 children (e₁ ‹ o # i › e₂) = e₁ ∷ e₂ ∷ []
-children (if e₁ then e₂ else e₃) = e₁ ∷ e₂ ∷ e₃ ∷ []
+children (if e₁ then' e₂ else e₃) = e₁ ∷ e₂ ∷ e₃ ∷ []
 children (l := e) = e ∷ []
 children (! l) = []
 children skip = []
@@ -85,7 +85,7 @@ nodes_row : (e : Expr) → nodes e ≡ row (children e) (e ∷ [])
 nodes_row (int n) = refl
 nodes_row (bool b) = refl
 nodes_row (e₁ ‹ o # i › e₂) = simp append_assoc
-nodes_row (if e₁ then e₂ else e₃) = simp append_assoc
+nodes_row (if e₁ then' e₂ else e₃) = simp append_assoc
 nodes_row (l := e) = refl
 nodes_row (! l) = refl
 nodes_row skip = refl
@@ -170,7 +170,7 @@ pub by_children : (P : Expr → Type 0) → ((e : Expr) → Each P (children e) 
 by_children P s (int n) = s (int n) nil
 by_children P s (bool b) = s (bool b) nil
 by_children P s (e₁ ‹ o # i › e₂) = s (e₁ ‹ o # i › e₂) (by_children P s e₁ and by_children P s e₂ and nil)
-by_children P s (if e₁ then e₂ else e₃) = s (if e₁ then e₂ else e₃) (by_children P s e₁ and by_children P s e₂ and by_children P s e₃ and nil)
+by_children P s (if e₁ then' e₂ else e₃) = s (if e₁ then' e₂ else e₃) (by_children P s e₁ and by_children P s e₂ and by_children P s e₃ and nil)
 by_children P s (l := e) = s (l := e) (by_children P s e and nil)
 by_children P s (! l) = s (! l) nil
 by_children P s skip = s skip nil

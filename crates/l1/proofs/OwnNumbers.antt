@@ -3,7 +3,7 @@ use Prim.Native.Nat.{ℕ, suc, ◌+◌}
 use native.Mathlib.Omega.{arith}
 use mathlib.Core.Path.{◌≡◌}
 use mathlib.Core.List.{List, [], ◌∷◌}
-use Rattle.l1.specs.Syntax.{Op, Expr, int, bool, ◌‹◌#◌›◌, if◌then◌else◌, ◌:=◌, !◌, skip, ◌⨾◌, while◌do'◌done}
+use Rattle.l1.specs.Syntax.{Op, Expr, int, bool, ◌‹◌#◌›◌, if◌then'◌else◌, ◌:=◌, !◌, skip, ◌⨾◌, while◌do'◌done}
 use Rattle.l1.specs.Refused.{nodes, Nth, nth_zero, nth_suc, Numbered}
 
 -- the number that the form at node i carries; i where it carries none
@@ -11,7 +11,7 @@ abbrev number_at : ℕ → Expr → ℕ
 number_at i (int n) = i
 number_at i (bool b) = i
 number_at i (e₁ ‹ o # j › e₂) = j
-number_at i (if e₁ then e₂ else e₃) = i
+number_at i (if e₁ then' e₂ else e₃) = i
 number_at i (l := e) = i
 number_at i (! l) = i
 number_at i skip = i

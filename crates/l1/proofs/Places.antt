@@ -1,7 +1,7 @@
 -- 02, request 2: the forms that enclose the place of the next step are at no moment of a run more than the row's places, and no step adds to these.
 use Prim.Native.Nat.{ℕ, ◌≤◌, ◌<◌}
 use native.Mathlib.Omega.{arith}
-use Rattle.l1.specs.Syntax.{Expr, int, bool, ◌‹◌#◌›◌, if◌then◌else◌, ◌:=◌, !◌, skip, ◌⨾◌, while◌do'◌done}
+use Rattle.l1.specs.Syntax.{Expr, int, bool, ◌‹◌#◌›◌, if◌then'◌else◌, ◌:=◌, !◌, skip, ◌⨾◌, while◌do'◌done}
 use Rattle.l1.specs.Store.{Store}
 use Rattle.l1.specs.Steps.{Rule, ⟨◌∣◌⟩⟶⟨◌∣◌⟩◌, op+, op≥, op1, op2, deref, assign1, assign2, seq1, seq2, if1, if2, if3, while}
 use Rattle.l1.specs.Overflow.{◌overflows_at◌, over, over_op1, over_op2, over_assign2, over_seq2, over_if3}
@@ -64,7 +64,7 @@ pub places_below_size : (e : Expr) → places e < size e
 places_below_size (int n) = omega arith
 places_below_size (bool b) = omega arith
 places_below_size (e₁ ‹ o # i › e₂) = omega (arith, places_below_size e₁, places_below_size e₂)
-places_below_size (if e₁ then e₂ else e₃) = omega (arith, places_below_size e₁, places_below_size e₂, places_below_size e₃)
+places_below_size (if e₁ then' e₂ else e₃) = omega (arith, places_below_size e₁, places_below_size e₂, places_below_size e₃)
 places_below_size (l := e) = omega (arith, places_below_size e)
 places_below_size (! l) = omega arith
 places_below_size skip = omega arith

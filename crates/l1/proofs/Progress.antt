@@ -6,7 +6,7 @@ use mathlib.Core.Path.{◌≡◌, refl}
 use mathlib.Core.Bool.{true, false}
 use lib.IntN.{ℤ, ◌+ℤ◌}
 use lib.ListN.{length}
-use Rattle.l1.specs.Syntax.{Op, plus, geq, Loc, Expr, int, ◌‹◌#◌›◌, if◌then◌else◌, ◌:=◌, ◌⨾◌, v_int, v_bool, v_skip, Ty, ty_int, ty_bool, ty_unit}
+use Rattle.l1.specs.Syntax.{Op, plus, geq, Loc, Expr, int, ◌‹◌#◌›◌, if◌then'◌else◌, ◌:=◌, ◌⨾◌, v_int, v_bool, v_skip, Ty, ty_int, ty_bool, ty_unit}
 use Rattle.l1.specs.Store.{Store, ◌∈dom◌}
 use Rattle.l1.specs.Range.{InRange, OutOfRange}
 use Rattle.l1.specs.Typing.{TypeEnv, ◌⊢◌∶◌, t_int, t_bool, t_op+, t_op≥, t_if, t_assign, t_deref, t_skip, t_seq, t_while}
@@ -58,7 +58,7 @@ seq_act (_, does_end v_skip) t_skip = (_, does_step seq1)
 seq_act {Γ = Γ} {e₂ = e₂} {s = s} (_, does_end (v_int {n = n})) a = elim a [ ]
 seq_act {Γ = Γ} {e₂ = e₂} {s = s} (_, does_end (v_bool {b = b})) a = elim a [ ]
 
-if_act : {Γ : TypeEnv} {e₁ e₂ e₃ : Expr} {s : Store} → SomeAct e₁ s → Γ ⊢ e₁ ∶ ty_bool → SomeAct (if e₁ then e₂ else e₃) s
+if_act : {Γ : TypeEnv} {e₁ e₂ e₃ : Expr} {s : Store} → SomeAct e₁ s → Γ ⊢ e₁ ∶ ty_bool → SomeAct (if e₁ then' e₂ else e₃) s
 if_act (_, does_step d) a = (_, does_step (if3 d))
 if_act (_, does_overflow p) a = (_, does_overflow (over_if3 p))
 if_act (_, does_end (v_bool {b = true})) t_bool = (_, does_step if1)

@@ -1,6 +1,6 @@
 -- 01, "Rows from the training course": the rows marked P, as one table, and what it is for a row to be right.
 use Rattle.std.specs.Prelude.{ℕ, ◌≤◌, ◌≡◌, true, false, List, [], ◌∷◌, pos, negsuc, length}
-use Rattle.l1.specs.Syntax.{plus, geq, Expr, int, bool, ◌‹◌#◌›◌, if◌then◌else◌, ◌:=◌, !◌, skip, ◌⨾◌, while◌do'◌done, Ty, ty_int, ty_unit}
+use Rattle.l1.specs.Syntax.{plus, geq, Expr, int, bool, ◌‹◌#◌›◌, if◌then'◌else◌, ◌:=◌, !◌, skip, ◌⨾◌, while◌do'◌done, Ty, ty_int, ty_unit}
 use Rattle.l1.specs.Store.{Store}
 use Rattle.l1.specs.Typing.{TypeEnv, ◌⊢◌∶◌}
 use Rattle.l1.specs.Run.{Outcome, value, overflow, fuel, answer, Yields}
@@ -56,7 +56,7 @@ rows =
     ∷ row (bytes "((l0 := 1) ; !l0)") ((0 := int (pos 1)) ⨾ (! 0)) 1 100 (l0 9) (run_gives ty_int (value (int (pos 1))) 3 0 (bytes "1") (l0 1))
     ∷ row (bytes "(true + skip)") (bool true ‹ plus # 2 › skip) 1 100 (l0 0) (refused_by 21 2)
     ∷ row (bytes "(5 ; skip)") (int (pos 5) ⨾ skip) 1 100 (l0 0) (refused_by 21 2)
-    ∷ row (bytes "(if true then 1 else skip)") (if bool true then int (pos 1) else skip) 1 100 (l0 0) (refused_by 23 3)
+    ∷ row (bytes "(if true then 1 else skip)") (if bool true then' int (pos 1) else skip) 1 100 (l0 0) (refused_by 23 3)
     ∷ row (bytes "!l0") (! 0) 0 100 [] (refused_by 20 0)
     ∷ row (bytes "(2147483647 + 0)") (int (pos 2147483647) ‹ plus # 2 › int (pos 0)) 1 100 (l0 0) (run_gives ty_int (value (int (pos 2147483647))) 1 0 (bytes "2147483647") (l0 0))
     ∷ row (bytes "(2147483647 + 1)") (int (pos 2147483647) ‹ plus # 2 › int (pos 1)) 1 0 (l0 0) (run_gives ty_int (overflow 2) 0 0 (bytes "(2147483647 + 1)") (l0 0))

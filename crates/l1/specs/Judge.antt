@@ -1,6 +1,6 @@
 -- The verdict of Refused.antt, computed node by node: `verdict`. proofs/Verdict.antt has both directions.
 use Rattle.std.specs.Prelude.{ℕ, zero, suc, cond, List, [], ◌∷◌, eqb, ltb}
-use Rattle.l1.specs.Syntax.{plus, geq, Loc, Expr, int, bool, ◌‹◌#◌›◌, if◌then◌else◌, ◌:=◌, !◌, skip, ◌⨾◌, while◌do'◌done, Ty, ty_int, ty_bool, ty_unit}
+use Rattle.l1.specs.Syntax.{plus, geq, Loc, Expr, int, bool, ◌‹◌#◌›◌, if◌then'◌else◌, ◌:=◌, !◌, skip, ◌⨾◌, while◌do'◌done, Ty, ty_int, ty_bool, ty_unit}
 use Rattle.l1.specs.Typing.{TypeEnv}
 use Rattle.l1.specs.Refused.{nodes, Verdict, typed, refused}
 
@@ -10,7 +10,7 @@ rule_type (int n) = ty_int
 rule_type (bool b) = ty_bool
 rule_type (e₁ ‹ plus # i › e₂) = ty_int
 rule_type (e₁ ‹ geq # i › e₂) = ty_bool
-rule_type (if e₁ then e₂ else e₃) = rule_type e₂
+rule_type (if e₁ then' e₂ else e₃) = rule_type e₂
 rule_type (l := e) = ty_unit
 rule_type (! l) = ty_int
 rule_type skip = ty_unit
@@ -35,7 +35,7 @@ unfoldable pub fault : TypeEnv → Expr → ℕ
 fault Γ (int n) = 0
 fault Γ (bool b) = 0
 fault Γ (e₁ ‹ o # i › e₂) = wants ty_int e₁ 21 (wants ty_int e₂ 22 0)
-fault Γ (if e₁ then e₂ else e₃) = wants ty_bool e₁ 21 (wants (rule_type e₂) e₃ 23 0)
+fault Γ (if e₁ then' e₂ else e₃) = wants ty_bool e₁ 21 (wants (rule_type e₂) e₃ 23 0)
 fault Γ (l := e) = declared Γ l (wants ty_int e 21 0)
 fault Γ (! l) = declared Γ l 0
 fault Γ skip = 0

@@ -1,13 +1,13 @@
 -- The numbers of an expression: its nodes, its places, W, its loops, and the demands' limit on the steps of a run.
 use Rattle.std.specs.Prelude.{ℕ, ◌+◌, ◌*◌, max}
-use Rattle.l1.specs.Syntax.{Expr, int, bool, ◌‹◌#◌›◌, if◌then◌else◌, ◌:=◌, !◌, skip, ◌⨾◌, while◌do'◌done}
+use Rattle.l1.specs.Syntax.{Expr, int, bool, ◌‹◌#◌›◌, if◌then'◌else◌, ◌:=◌, !◌, skip, ◌⨾◌, while◌do'◌done}
 
 -- the number of nodes
 abbrev pub size : Expr → ℕ
 size (int n) = 1
 size (bool b) = 1
 size (e₁ ‹ o # i › e₂) = 1 + size e₁ + size e₂
-size (if e₁ then e₂ else e₃) = 1 + size e₁ + size e₂ + size e₃
+size (if e₁ then' e₂ else e₃) = 1 + size e₁ + size e₂ + size e₃
 size (l := e) = 1 + size e
 size (! l) = 1
 size skip = 1
@@ -21,7 +21,7 @@ abbrev pub places : Expr → ℕ
 places (int n) = 0
 places (bool b) = 0
 places (e₁ ‹ o # i › e₂) = 1 + max (places e₁) (places e₂)
-places (if e₁ then e₂ else e₃) = max (places e₁ + 1) (max (places e₂) (places e₃))
+places (if e₁ then' e₂ else e₃) = max (places e₁ + 1) (max (places e₂) (places e₃))
 places (l := e) = 1 + places e
 places (! l) = 0
 places skip = 0
@@ -33,7 +33,7 @@ abbrev pub working : Expr → ℕ
 working (int n) = 0
 working (bool b) = 0
 working (e₁ ‹ o # i › e₂) = 1 + working e₁ + working e₂
-working (if e₁ then e₂ else e₃) = 1 + working e₁ + working e₂ + working e₃
+working (if e₁ then' e₂ else e₃) = 1 + working e₁ + working e₂ + working e₃
 working (l := e) = 1 + working e
 working (! l) = 1
 working skip = 0
@@ -45,7 +45,7 @@ abbrev pub loop_nodes : Expr → ℕ
 loop_nodes (int n) = 0
 loop_nodes (bool b) = 0
 loop_nodes (e₁ ‹ o # i › e₂) = loop_nodes e₁ + loop_nodes e₂
-loop_nodes (if e₁ then e₂ else e₃) = loop_nodes e₁ + loop_nodes e₂ + loop_nodes e₃
+loop_nodes (if e₁ then' e₂ else e₃) = loop_nodes e₁ + loop_nodes e₂ + loop_nodes e₃
 loop_nodes (l := e) = loop_nodes e
 loop_nodes (! l) = 0
 loop_nodes skip = 0

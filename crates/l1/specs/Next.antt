@@ -2,7 +2,7 @@
 use Rattle.std.specs.Prelude.{ℕ, Bool, true, false, cond, ◌&&◌, ltb, ℤ, ◌+ℤ◌, length}
 use Rattle.std.proofs.Math.Option.{Option, none, some}
 use Rattle.std.specs.Int.Signed.{le_z}
-use Rattle.l1.specs.Syntax.{Op, plus, geq, Loc, Expr, int, bool, ◌‹◌#◌›◌, if◌then◌else◌, ◌:=◌, !◌, skip, ◌⨾◌, while◌do'◌done, Value}
+use Rattle.l1.specs.Syntax.{Op, plus, geq, Loc, Expr, int, bool, ◌‹◌#◌›◌, if◌then'◌else◌, ◌:=◌, !◌, skip, ◌⨾◌, while◌do'◌done, Value}
 use Rattle.l1.specs.Store.{Store, lookup, update}
 use Rattle.l1.specs.Range.{int_min, int_max}
 use Rattle.l1.specs.Steps.{Rule, by_plus, by_geq, by_deref, by_assign, by_seq, by_if_true, by_if_false, by_while, ⟨◌∣◌⟩⟶⟨◌∣◌⟩◌}
@@ -30,7 +30,7 @@ abbrev pub which : Expr → Which
 which (int n) = is_int n
 which (bool b) = is_bool b
 which (e₁ ‹ o # i › e₂) = is_none
-which (if e₁ then e₂ else e₃) = is_none
+which (if e₁ then' e₂ else e₃) = is_none
 which (l := e) = is_none
 which (! l) = is_none
 which skip = is_skip
@@ -82,9 +82,9 @@ unfoldable pub next : Expr → Store → Option Act
 next (int n) s = some ends
 next (bool b) s = some ends
 next (e₁ ‹ o # i › e₂) s = within (λ x. x ‹ o # i › e₂) (next e₁ s) (within (λ x. e₁ ‹ o # i › x) (next e₂ s) (op_act o i (which e₁) (which e₂) s))
-next (if e₁ then e₂ else e₃) s = within (λ x. if x then e₂ else e₃) (next e₁ s) (if_act (which e₁) e₂ e₃ s)
+next (if e₁ then' e₂ else e₃) s = within (λ x. if x then' e₂ else e₃) (next e₁ s) (if_act (which e₁) e₂ e₃ s)
 next (l := e) s = within (λ x. l := x) (next e s) (assign_act l (which e) s)
 next (! l) s = cond (ltb l (length s)) (some (steps by_deref (int (lookup s l)) s)) none
 next skip s = some ends
 next (e₁ ⨾ e₂) s = within (λ x. x ⨾ e₂) (next e₁ s) (seq_act (which e₁) e₂ s)
-next (while e₁ do' e₂ done) s = some (steps by_while (if e₁ then (e₂ ⨾ while e₁ do' e₂ done) else skip) s)
+next (while e₁ do' e₂ done) s = some (steps by_while (if e₁ then' (e₂ ⨾ while e₁ do' e₂ done) else skip) s)

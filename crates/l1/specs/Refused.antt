@@ -1,6 +1,6 @@
 -- 01's refusals on type, 20 to 23, said of the tree: which node's own rule fails, by which number, and which of them is given.
 use Rattle.std.specs.Prelude.{ℕ, zero, suc, ◌<◌, ◌≡◌, List, [], ◌∷◌, ◌++◌}
-use Rattle.l1.specs.Syntax.{Op, Loc, Expr, int, bool, ◌‹◌#◌›◌, if◌then◌else◌, ◌:=◌, !◌, skip, ◌⨾◌, while◌do'◌done, Ty, ty_int, ty_bool, ty_unit}
+use Rattle.l1.specs.Syntax.{Op, Loc, Expr, int, bool, ◌‹◌#◌›◌, if◌then'◌else◌, ◌:=◌, !◌, skip, ◌⨾◌, while◌do'◌done, Ty, ty_int, ty_bool, ty_unit}
 use Rattle.l1.specs.Typing.{TypeEnv, ◌declares◌, ◌⊢◌∶◌}
 
 -- "Nodes stand in post-order": node i is element i of this list, and the root is the last
@@ -8,7 +8,7 @@ abbrev pub nodes : Expr → List Expr
 nodes (int n) = int n ∷ []
 nodes (bool b) = bool b ∷ []
 nodes (e₁ ‹ o # i › e₂) = nodes e₁ ++ nodes e₂ ++ (e₁ ‹ o # i › e₂) ∷ []
-nodes (if e₁ then e₂ else e₃) = nodes e₁ ++ nodes e₂ ++ nodes e₃ ++ (if e₁ then e₂ else e₃) ∷ []
+nodes (if e₁ then' e₂ else e₃) = nodes e₁ ++ nodes e₂ ++ nodes e₃ ++ (if e₁ then' e₂ else e₃) ∷ []
 nodes (l := e) = nodes e ++ (l := e) ∷ []
 nodes (! l) = (! l) ∷ []
 nodes skip = skip ∷ []
@@ -35,7 +35,7 @@ pub data Fails (Γ : TypeEnv) : Expr → ℕ → Type 0 where
   undeclared_deref : {l : Loc} → ¬ (Γ declares l) → Fails Γ (! l) 20
   -- 21: first child has a type its rule doesn't allow
   first_op : {o : Op} {i : ℕ} {e₁ e₂ : Expr} {T : Ty} → Γ ⊢ e₁ ∶ T → ¬ (T ≡ ty_int) → Fails Γ (e₁ ‹ o # i › e₂) 21
-  first_if : {e₁ e₂ e₃ : Expr} {T : Ty} → Γ ⊢ e₁ ∶ T → ¬ (T ≡ ty_bool) → Fails Γ (if e₁ then e₂ else e₃) 21
+  first_if : {e₁ e₂ e₃ : Expr} {T : Ty} → Γ ⊢ e₁ ∶ T → ¬ (T ≡ ty_bool) → Fails Γ (if e₁ then' e₂ else e₃) 21
   first_assign : {l : Loc} {e : Expr} {T : Ty} → Γ ⊢ e ∶ T → ¬ (T ≡ ty_int) → Fails Γ (l := e) 21
   first_seq : {e₁ e₂ : Expr} {T : Ty} → Γ ⊢ e₁ ∶ T → ¬ (T ≡ ty_unit) → Fails Γ (e₁ ⨾ e₂) 21
   first_while : {e₁ e₂ : Expr} {T : Ty} → Γ ⊢ e₁ ∶ T → ¬ (T ≡ ty_bool) → Fails Γ (while e₁ do' e₂ done) 21
@@ -43,7 +43,7 @@ pub data Fails (Γ : TypeEnv) : Expr → ℕ → Type 0 where
   second_op : {o : Op} {i : ℕ} {e₁ e₂ : Expr} {T : Ty} → Γ ⊢ e₂ ∶ T → ¬ (T ≡ ty_int) → Fails Γ (e₁ ‹ o # i › e₂) 22
   second_while : {e₁ e₂ : Expr} {T : Ty} → Γ ⊢ e₂ ∶ T → ¬ (T ≡ ty_unit) → Fails Γ (while e₁ do' e₂ done) 22
   -- 23: branches of an if differ
-  branches_if : {e₁ e₂ e₃ : Expr} {T₂ T₃ : Ty} → Γ ⊢ e₂ ∶ T₂ → Γ ⊢ e₃ ∶ T₃ → ¬ (T₂ ≡ T₃) → Fails Γ (if e₁ then e₂ else e₃) 23
+  branches_if : {e₁ e₂ e₃ : Expr} {T₂ T₃ : Ty} → Γ ⊢ e₂ ∶ T₂ → Γ ⊢ e₃ ∶ T₃ → ¬ (T₂ ≡ T₃) → Fails Γ (if e₁ then' e₂ else e₃) 23
 
 -- e is refused by c at node i: "the lowest-numbered node whose own rule fails, and at that node the lowest number"
 pub record Refused (Γ : TypeEnv) (e : Expr) (c i : ℕ) : Type 0 where

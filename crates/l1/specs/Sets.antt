@@ -3,7 +3,7 @@
 use Rattle.std.specs.Prelude.{ℕ, ◌/◌, ◌%◌, ◌^◌}
 use mathlib.Core.List.{List, [], ◌∷◌, ◌++◌, Memᴰ}
 use Rattle.std.specs.Int.Bits.{bit_or}
-use Rattle.l1.specs.Syntax.{Loc, Expr, int, bool, ◌‹◌#◌›◌, if◌then◌else◌, ◌:=◌, !◌, skip, ◌⨾◌, while◌do'◌done}
+use Rattle.l1.specs.Syntax.{Loc, Expr, int, bool, ◌‹◌#◌›◌, if◌then'◌else◌, ◌:=◌, !◌, skip, ◌⨾◌, while◌do'◌done}
 
 pub data Use : Type 0 where
   reading writing : Use
@@ -21,7 +21,7 @@ abbrev pub uses : Use → Expr → List Loc
 uses u (int n) = []
 uses u (bool b) = []
 uses u (e₁ ‹ o # i › e₂) = uses u e₁ ++ uses u e₂
-uses u (if e₁ then e₂ else e₃) = uses u e₁ ++ uses u e₂ ++ uses u e₃
+uses u (if e₁ then' e₂ else e₃) = uses u e₁ ++ uses u e₂ ++ uses u e₃
 uses u (l := e) = uses u e ++ uses_of_assign u l
 uses u (! l) = uses_of_deref u l
 uses u skip = []

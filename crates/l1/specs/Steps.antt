@@ -3,7 +3,7 @@
 -- that name on.
 use Rattle.std.specs.Prelude.{ℕ, ◌≡◌, Bool, true, false, ℤ, ◌+ℤ◌}
 use Rattle.std.specs.Int.Signed.{le_z}
-use Rattle.l1.specs.Syntax.{Op, plus, geq, Loc, Expr, int, bool, ◌‹◌#◌›◌, if◌then◌else◌, ◌:=◌, !◌, skip, ◌⨾◌, while◌do'◌done, Value}
+use Rattle.l1.specs.Syntax.{Op, plus, geq, Loc, Expr, int, bool, ◌‹◌#◌›◌, if◌then'◌else◌, ◌:=◌, !◌, skip, ◌⨾◌, while◌do'◌done, Value}
 use Rattle.l1.specs.Store.{Store, ◌∈dom◌, lookup, update}
 use Rattle.l1.specs.Range.{InRange}
 
@@ -41,11 +41,11 @@ pub data ⟨◌∣◌⟩⟶⟨◌∣◌⟩◌ : Expr → Store → Expr → Stor
       → ⟨ e₁ ∣ s ⟩⟶⟨ e₁' ∣ s' ⟩ r
       → ⟨ e₁ ⨾ e₂ ∣ s ⟩⟶⟨ e₁' ⨾ e₂ ∣ s' ⟩ r
   if1 : {e₂ e₃ : Expr} {s : Store}
-      → ⟨ if bool true then e₂ else e₃ ∣ s ⟩⟶⟨ e₂ ∣ s ⟩ by_if_true
+      → ⟨ if bool true then' e₂ else e₃ ∣ s ⟩⟶⟨ e₂ ∣ s ⟩ by_if_true
   if2 : {e₂ e₃ : Expr} {s : Store}
-      → ⟨ if bool false then e₂ else e₃ ∣ s ⟩⟶⟨ e₃ ∣ s ⟩ by_if_false
+      → ⟨ if bool false then' e₂ else e₃ ∣ s ⟩⟶⟨ e₃ ∣ s ⟩ by_if_false
   if3 : {e₁ e₁' e₂ e₃ : Expr} {s s' : Store} {r : Rule}
       → ⟨ e₁ ∣ s ⟩⟶⟨ e₁' ∣ s' ⟩ r
-      → ⟨ if e₁ then e₂ else e₃ ∣ s ⟩⟶⟨ if e₁' then e₂ else e₃ ∣ s' ⟩ r
+      → ⟨ if e₁ then' e₂ else e₃ ∣ s ⟩⟶⟨ if e₁' then' e₂ else e₃ ∣ s' ⟩ r
   while : {e₁ e₂ : Expr} {s : Store}
-      → ⟨ while e₁ do' e₂ done ∣ s ⟩⟶⟨ if e₁ then (e₂ ⨾ while e₁ do' e₂ done) else skip ∣ s ⟩ by_while
+      → ⟨ while e₁ do' e₂ done ∣ s ⟩⟶⟨ if e₁ then' (e₂ ⨾ while e₁ do' e₂ done) else skip ∣ s ⟩ by_while

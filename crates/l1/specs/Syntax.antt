@@ -5,7 +5,7 @@
 use Rattle.std.specs.Prelude.{ℕ, Bool, ℤ}
 
 infix 50 ◌‹◌#◌›◌
-infix 40 if◌then◌else◌
+infix 40 if◌then'◌else◌
 infix 40 ◌:=◌
 infix 60 !◌
 infixr 30 ◌⨾◌
@@ -22,7 +22,7 @@ pub data Expr : Type 0 where
   int : ℤ → Expr
   bool : Bool → Expr
   ◌‹◌#◌›◌ : Expr → Op → ℕ → Expr → Expr
-  if◌then◌else◌ : Expr → Expr → Expr → Expr
+  if◌then'◌else◌ : Expr → Expr → Expr → Expr
   ◌:=◌ : Loc → Expr → Expr
   !◌ : Loc → Expr
   skip : Expr

@@ -3,7 +3,7 @@ use Rattle.std.specs.Prelude.{ℕ, zero, suc, ◌+◌, ◌/◌, ◌%◌, Bool, t
 use Prim.Native.Char.{code}
 use Prim.Native.String as S
 use Prim.Native.String.{String}
-use Rattle.l1.specs.Syntax.{Op, plus, geq, Loc, Expr, int, bool, ◌‹◌#◌›◌, if◌then◌else◌, ◌:=◌, !◌, skip, ◌⨾◌, while◌do'◌done}
+use Rattle.l1.specs.Syntax.{Op, plus, geq, Loc, Expr, int, bool, ◌‹◌#◌›◌, if◌then'◌else◌, ◌:=◌, !◌, skip, ◌⨾◌, while◌do'◌done}
 use Rattle.l1.specs.Steps.{Rule, by_plus, by_geq, by_deref, by_assign, by_seq, by_if_true, by_if_false, by_while}
 
 -- the codes of the characters
@@ -39,7 +39,7 @@ unfoldable pub text : Expr → List ℕ
 text (int n) = integer n
 text (bool b) = truth b
 text (e₁ ‹ o # i › e₂) = bytes "(" ++ text e₁ ++ sign o ++ text e₂ ++ bytes ")"
-text (if e₁ then e₂ else e₃) = bytes "(if " ++ text e₁ ++ bytes " then " ++ text e₂ ++ bytes " else " ++ text e₃ ++ bytes ")"
+text (if e₁ then' e₂ else e₃) = bytes "(if " ++ text e₁ ++ bytes " then " ++ text e₂ ++ bytes " else " ++ text e₃ ++ bytes ")"
 text (l := e) = bytes "(" ++ location l ++ bytes " := " ++ text e ++ bytes ")"
 text (! l) = bytes "!" ++ location l
 text skip = bytes "skip"

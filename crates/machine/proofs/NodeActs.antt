@@ -7,7 +7,7 @@ use mathlib.Core.List.{List}
 use lib.IntN.{ℤ}
 use lib.ListN.{length}
 use Rattle.l1.proofs.Clash.{clash}
-use Rattle.l1.specs.Syntax.{Expr, int, bool, if◌then◌else◌, !◌, skip, ◌⨾◌, while◌do'◌done, Ty, ty_int, ty_bool, ty_unit}
+use Rattle.l1.specs.Syntax.{Expr, int, bool, if◌then'◌else◌, !◌, skip, ◌⨾◌, while◌do'◌done, Ty, ty_int, ty_bool, ty_unit}
 use Rattle.l1.specs.Store.{Store, ◌∈dom◌, lookup}
 use Rattle.l1.specs.Steps.{Rule, by_deref, by_while, ⟨◌∣◌⟩⟶⟨◌∣◌⟩◌, deref, while}
 use Rattle.l1.specs.Typing.{TypeEnv, ◌⊢◌∶◌, t_deref, t_while}
@@ -194,7 +194,7 @@ module _ {b : List ℕ} (ok : Runnable b) {i : ℕ} (lt : i < count b) {F : Form
       let z : tree_at b i ≡ while tree_at b (child1 b i) do' tree_at b (child2 b i) done = at_form ∙ rw f in
       to_node {r = by_while} {d = a.Push} {g = p.Again i}
       (subst
-      (λ (e : Expr). ⟨ e ∣ s ⟩⟶⟨ if tree_at b (child1 b i) then (tree_at b (child2 b i) ⨾ e) else skip ∣ s ⟩ by_while)
+      (λ (e : Expr). ⟨ e ∣ s ⟩⟶⟨ if tree_at b (child1 b i) then' (tree_at b (child2 b i) ⨾ e) else skip ∣ s ⟩ by_while)
       (sym z)
       (while))
       (lt, held)

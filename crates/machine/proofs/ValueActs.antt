@@ -7,7 +7,7 @@ use mathlib.Core.List.{List}
 use lib.IntN.{ℤ}
 use lib.ListN.{length}
 use lib.Signed.{le_z}
-use Rattle.l1.specs.Syntax.{Op, Expr, int, bool, ◌‹◌#◌›◌, if◌then◌else◌, ◌:=◌, skip, ◌⨾◌, Ty, ty_int, ty_bool, ty_unit}
+use Rattle.l1.specs.Syntax.{Op, Expr, int, bool, ◌‹◌#◌›◌, if◌then'◌else◌, ◌:=◌, skip, ◌⨾◌, Ty, ty_int, ty_bool, ty_unit}
 use Rattle.l1.specs.Store.{Store}
 use Rattle.l1.specs.Typing.{TypeEnv, ◌⊢◌∶◌, t_op+, t_op≥, t_if, t_assign, t_seq}
 use Rattle.l1.specs.Steps.{by_geq, by_assign, by_seq, by_if_true, by_if_false, op≥, assign1, seq1, if1, if2}
@@ -38,7 +38,7 @@ right_typed (t_op+ h h') = h'
 right_typed (t_op≥ h h') = h'
 
 -- the body of a loop, which waits in an `if`
-body_typed : {Γ : TypeEnv} {e e₁ e₂ e₃ : Expr} {T : Ty} → Γ ⊢ if e then (e₁ ⨾ e₂) else e₃ ∶ T → Γ ⊢ e₁ ∶ ty_unit
+body_typed : {Γ : TypeEnv} {e e₁ e₂ e₃ : Expr} {T : Ty} → Γ ⊢ if e then' (e₁ ⨾ e₂) else e₃ ∶ T → Γ ⊢ e₁ ∶ ty_unit
 body_typed (t_if h (t_seq h₁ h₂) h₃) = h₁
 
 -- the right operand of what stands in the place f is an int

@@ -1,6 +1,6 @@
 -- The places of the rules of 2.3 that only say where the work is done, as contexts: what stands around the part at work.
 use Rattle.std.specs.Prelude.{ℕ, ◌+◌, ◌*◌, List, [], ◌∷◌, ℤ}
-use Rattle.l1.specs.Syntax.{Op, Loc, Expr, int, ◌‹◌#◌›◌, if◌then◌else◌, ◌:=◌, ◌⨾◌}
+use Rattle.l1.specs.Syntax.{Op, Loc, Expr, int, ◌‹◌#◌›◌, if◌then'◌else◌, ◌:=◌, ◌⨾◌}
 use Rattle.l1.specs.Measures.{size}
 
 pub data Context : Type 0 where
@@ -13,7 +13,7 @@ pub data Context : Type 0 where
 abbrev pub fill : Context → Expr → Expr
 fill (in_op1 i o e₂) e = e ‹ o # i › e₂
 fill (in_op2 i o n) e = int n ‹ o # i › e
-fill (in_if3 e₂ e₃) e = if e then e₂ else e₃
+fill (in_if3 e₂ e₃) e = if e then' e₂ else e₃
 fill (in_assign2 l) e = l := e
 fill (in_seq2 e₂) e = e ⨾ e₂
 

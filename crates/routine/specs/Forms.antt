@@ -1,6 +1,6 @@
 -- The forms by their kinds, what the eight bytes of a node hold, and the tree of a node by its form.
 use Rattle.std.specs.Prelude.{ℕ, ◌+◌, ◌*◌, ◌<◌, ◌/◌, ◌%◌, ◌^◌, List, [], ◌∷◌, eqb, ℤ, get_or}
-use Rattle.l1.specs.Syntax.{plus, geq, Expr, int, bool, ◌‹◌#◌›◌, if◌then◌else◌, ◌:=◌, !◌, skip, ◌⨾◌, while◌do'◌done}
+use Rattle.l1.specs.Syntax.{plus, geq, Expr, int, bool, ◌‹◌#◌›◌, if◌then'◌else◌, ◌:=◌, !◌, skip, ◌⨾◌, while◌do'◌done}
 use Rattle.stored.specs.Bytes.{signed}
 use Rattle.stored.specs.Layout.{kind, arg, child1, child2, child3}
 use Rattle.routine.specs.declared.Form.{Form}
@@ -43,7 +43,7 @@ make Integer b i t = int (integer_of b i)
 make Boolean b i t = bool (eqb (arg b i) 1)
 make Plus b i t = t (child1 b i) ‹ plus # i › t (child2 b i)
 make Geq b i t = t (child1 b i) ‹ geq # i › t (child2 b i)
-make If b i t = if t (child1 b i) then t (child2 b i) else t (child3 b i)
+make If b i t = if t (child1 b i) then' t (child2 b i) else t (child3 b i)
 make Assign b i t = arg b i := t (child1 b i)
 make Deref b i t = ! arg b i
 make Skip b i t = skip

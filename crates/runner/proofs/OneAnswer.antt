@@ -2,7 +2,7 @@
 use Prim.Native.Nat.{ℕ}
 use mathlib.Core.Path.{◌≡◌, refl, ap}
 use mathlib.Core.List.{List}
-use Rattle.l1.specs.Syntax.{int, bool, ◌‹◌#◌›◌, if◌then◌else◌, ◌:=◌, !◌, skip, ◌⨾◌, while◌do'◌done}
+use Rattle.l1.specs.Syntax.{int, bool, ◌‹◌#◌›◌, if◌then'◌else◌, ◌:=◌, !◌, skip, ◌⨾◌, while◌do'◌done}
 use Rattle.l1.specs.Store.{Store}
 use Rattle.l1.specs.Run.{Outcome, value, overflow, fuel}
 use Rattle.stored.specs.Answers.{Runs}
@@ -22,7 +22,7 @@ back (value (int n)) = Int n
 back (value (bool t)) = Bool t
 back (value skip) = Skip
 back (value (e₁ ‹ o # i › e₂)) = Fuel
-back (value (if e₁ then e₂ else e₃)) = Fuel
+back (value (if e₁ then' e₂ else e₃)) = Fuel
 back (value (l := e)) = Fuel
 back (value (! l)) = Fuel
 back (value (e₁ ⨾ e₂)) = Fuel

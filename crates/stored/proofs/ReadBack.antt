@@ -7,7 +7,7 @@ use mathlib.Core.Logic.{⊎_elim}
 use mathlib.Core.List.{List, [], ◌∷◌, ◌++◌}
 use lib.ListN.{length, length-append}
 use lib.Seq.{take_all}
-use Rattle.l1.specs.Syntax.{Expr, int, bool, ◌‹◌#◌›◌, if◌then◌else◌, ◌:=◌, !◌, skip, ◌⨾◌, while◌do'◌done}
+use Rattle.l1.specs.Syntax.{Expr, int, bool, ◌‹◌#◌›◌, if◌then'◌else◌, ◌:=◌, !◌, skip, ◌⨾◌, while◌do'◌done}
 use Rattle.l1.specs.Measures.{size, places}
 use Rattle.l1.specs.Refused.{nodes, nth_zero, Node}
 use Rattle.l1.proofs.Nodes.{nth_right, nth_some, nodes_length, size_positive}
@@ -28,7 +28,7 @@ unfolding bytes_from
 nodes_bytes (int n) f = refl
 nodes_bytes (bool b) f = refl
 nodes_bytes (e₁ ‹ o # i › e₂) f = simp (length-append, nodes_bytes e₁, nodes_bytes e₂) (omega arith)
-nodes_bytes (if e₁ then e₂ else e₃) f = simp (length-append, nodes_bytes e₁, nodes_bytes e₂, nodes_bytes e₃) (omega arith)
+nodes_bytes (if e₁ then' e₂ else e₃) f = simp (length-append, nodes_bytes e₁, nodes_bytes e₂, nodes_bytes e₃) (omega arith)
 nodes_bytes (l := e) f = simp (length-append, nodes_bytes e) (omega arith)
 nodes_bytes (! l) f = refl
 nodes_bytes skip f = refl
@@ -85,7 +85,7 @@ module _ (b : List ℕ) where
       let l : length (nodes e₁ ++ nodes e₂) ≡ size e₁ + size e₂ = simp (length-append, nodes_length) in
       let q : j ≡ f + (size e₁ + size e₂) = omega arith in
       rw (two_root, q) (at_op t.own t.last t.before t.first_tree t.second_tree)
-  reads (if e₁ then e₂ else e₃) f fits inside h =
+  reads (if e₁ then' e₂ else e₃) f fits inside h =
       let l₁ = nodes_bytes e₁ f in let l₂ = nodes_bytes e₂ (f + size e₁) in let l₃ = nodes_bytes e₃ (f + size e₁ + size e₂) in
       let p₁ = size_positive e₁ in let p₂ = size_positive e₂ in let p₃ = size_positive e₃ in
       let q : 1 + size e₁ + size e₂ + size e₃ ≡ size e₁ + size e₂ + size e₃ + 1 = omega arith in

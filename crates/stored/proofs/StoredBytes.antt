@@ -3,7 +3,7 @@ use Prim.Native.Nat.{ℕ, zero, suc, ◌+◌, ◌*◌, ◌≤◌, ◌<◌}
 use native.Mathlib.Omega.{arith}
 use mathlib.Core.Bool.{Bool, true, false, cond}
 use mathlib.Core.List.{List, [], ◌∷◌, ◌++◌}
-use Rattle.l1.specs.Syntax.{Op, plus, geq, Expr, int, bool, ◌‹◌#◌›◌, if◌then◌else◌, ◌:=◌, !◌, skip, ◌⨾◌, while◌do'◌done}
+use Rattle.l1.specs.Syntax.{Op, plus, geq, Expr, int, bool, ◌‹◌#◌›◌, if◌then'◌else◌, ◌:=◌, !◌, skip, ◌⨾◌, while◌do'◌done}
 use Rattle.l1.specs.Measures.{size}
 use Rattle.l1.specs.Refused.{nodes, nth_zero}
 use Rattle.l1.proofs.Nodes.{nth_right}
@@ -45,7 +45,7 @@ nodes_small (bool t) f fits l = let h = bit_small t in omega arith
 nodes_small (e₁ ‹ o # i › e₂) f fits l =
     two_small (op_kind o) f e₁ e₂ (kind_small o) l
     (nodes_small e₁ f (fits_first e₁ e₂ _ fits) (omega arith)) (nodes_small e₂ (f + size e₁) (fits_second e₁ e₂ _ fits) (omega arith))
-nodes_small (if e₁ then e₂ else e₃) f fits l =
+nodes_small (if e₁ then' e₂ else e₃) f fits l =
     let children = fits_left (nodes e₁ ++ nodes e₂ ++ nodes e₃) _ fits in
     both_small (bytes_from f e₁ ++ bytes_from (f + size e₁) e₂ ++ bytes_from (f + size e₁ + size e₂) e₃) _
     (both_small (bytes_from f e₁ ++ bytes_from (f + size e₁) e₂) _

@@ -1,7 +1,7 @@
 -- 01, "The stored routine", read from the bytes: which tree stands at which node. One clause for each row of the table of kinds. A node at
 -- which no tree stands, though one stands at each node before it, is a node that breaks the layout.
 use Rattle.std.specs.Prelude.{ℕ, ◌+◌, ◌*◌, ◌≡◌, Bool, cond, List, ℤ}
-use Rattle.l1.specs.Syntax.{Op, Loc, Expr, int, bool, ◌‹◌#◌›◌, if◌then◌else◌, ◌:=◌, !◌, skip, ◌⨾◌, while◌do'◌done}
+use Rattle.l1.specs.Syntax.{Op, Loc, Expr, int, bool, ◌‹◌#◌›◌, if◌then'◌else◌, ◌:=◌, !◌, skip, ◌⨾◌, while◌do'◌done}
 use Rattle.l1.specs.Measures.{size}
 use Rattle.stored.specs.Bytes.{byte, pair, signed}
 use Rattle.stored.specs.Stored.{op_kind}
@@ -48,7 +48,7 @@ pub data TreeAt (b : List ℕ) : ℕ → Expr → Type 0 where
   at_if : {i x y z : ℕ} {e₁ e₂ e₃ : Expr}
       → NodeIs b i 4 0 x y z → z + 1 ≡ i → y + size e₃ ≡ z → x + size e₂ ≡ y
       → TreeAt b x e₁ → TreeAt b y e₂ → TreeAt b z e₃
-      → TreeAt b i (if e₁ then e₂ else e₃)
+      → TreeAt b i (if e₁ then' e₂ else e₃)
   at_assign : {i x : ℕ} {l : Loc} {e : Expr}
       → NodeIs b i 5 l x 0 0 → x + 1 ≡ i
       → TreeAt b x e

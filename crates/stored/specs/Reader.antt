@@ -1,7 +1,7 @@
 -- The tree of Layout.antt, computed: `read_tree`. It answers for every list of bytes; where a tree stands at the node it is that tree
 -- (proofs/Reader.antt), so that no two trees stand at one node.
 use Rattle.std.specs.Prelude.{ℕ, zero, suc, ◌+◌, ◌*◌, ◌<◌, List, [], ◌∷◌, eqb, get_or}
-use Rattle.l1.specs.Syntax.{plus, geq, Expr, int, bool, ◌‹◌#◌›◌, if◌then◌else◌, ◌:=◌, !◌, skip, ◌⨾◌, while◌do'◌done}
+use Rattle.l1.specs.Syntax.{plus, geq, Expr, int, bool, ◌‹◌#◌›◌, if◌then'◌else◌, ◌:=◌, !◌, skip, ◌⨾◌, while◌do'◌done}
 use Rattle.stored.specs.Bytes.{signed}
 use Rattle.stored.specs.Layout.{kind, arg, child1, child2, child3, TreeAt}
 
@@ -12,7 +12,7 @@ forms b i =
     ∷ (λ t. bool (eqb (arg b i) 1))
     ∷ (λ t. t (child1 b i) ‹ plus # i › t (child2 b i))
     ∷ (λ t. t (child1 b i) ‹ geq # i › t (child2 b i))
-    ∷ (λ t. if t (child1 b i) then t (child2 b i) else t (child3 b i))
+    ∷ (λ t. if t (child1 b i) then' t (child2 b i) else t (child3 b i))
     ∷ (λ t. arg b i := t (child1 b i))
     ∷ (λ t. ! arg b i)
     ∷ (λ t. skip)

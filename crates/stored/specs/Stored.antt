@@ -1,6 +1,6 @@
 -- 01, "The stored routine": the bytes of a tree with m declared locations, by 01's table of kinds.
 use Rattle.std.specs.Prelude.{ℕ, ◌+◌, ◌-◌, ◌*◌, ◌/◌, ◌%◌, ◌≤◌, cond, List, ◌∷◌, ◌++◌, ℤ}
-use Rattle.l1.specs.Syntax.{Op, plus, geq, Loc, Expr, int, bool, ◌‹◌#◌›◌, if◌then◌else◌, ◌:=◌, !◌, skip, ◌⨾◌, while◌do'◌done}
+use Rattle.l1.specs.Syntax.{Op, plus, geq, Loc, Expr, int, bool, ◌‹◌#◌›◌, if◌then'◌else◌, ◌:=◌, !◌, skip, ◌⨾◌, while◌do'◌done}
 use Rattle.l1.specs.Range.{InRange}
 use Rattle.l1.specs.Measures.{size, places}
 use Rattle.l1.specs.Refused.{Node, Numbered}
@@ -26,7 +26,7 @@ bytes_from f (e₁ ‹ o # i › e₂) =
     bytes_from f e₁
     ++ bytes_from (f + size e₁) e₂
     ++ node_bytes (op_kind o) 0 (root_from f e₁) (root_from (f + size e₁) e₂) 0
-bytes_from f (if e₁ then e₂ else e₃) =
+bytes_from f (if e₁ then' e₂ else e₃) =
     bytes_from f e₁
     ++ bytes_from (f + size e₁) e₂
     ++ bytes_from (f + size e₁ + size e₂) e₃

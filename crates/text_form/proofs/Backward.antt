@@ -9,7 +9,7 @@ use borrow.Author.Tests.{eqb-true}
 use lib.Dec.{eqb}
 use lib.IntN.{pos, negsuc}
 use lib.ListN.{length, get_or, length-append}
-use Rattle.l1.specs.Syntax.{plus, geq, Expr, int, bool, ◌‹◌#◌›◌, if◌then◌else◌, ◌:=◌, !◌, skip, ◌⨾◌, while◌do'◌done}
+use Rattle.l1.specs.Syntax.{plus, geq, Expr, int, bool, ◌‹◌#◌›◌, if◌then'◌else◌, ◌:=◌, !◌, skip, ◌⨾◌, while◌do'◌done}
 use Rattle.l1.specs.Text.{bytes, digits, decimal, text}
 use Rattle.text_form.specs.Digits.{digit, nonzero, digits_of, beyond, value_from}
 use Rattle.text_form.specs.Automaton.{Stop, space, close, code, Sym, lit, wanted, natural, positive, more, opened, joint, word}
@@ -182,7 +182,7 @@ module _ {k : ℕ} (ih : Taken k) where
         let y = part space (bytes "else ") _ x.left.back (omega arith) x.left.goes in
         let z = part close (code c ∷ []) st y.left.back (omega arith) y.left.goes in
         record {
-          expr = if x.expr then y.expr else z.expr;
+          expr = if x.expr then' y.expr else z.expr;
           left = recast (in_front (bytes "(i") (p ⊙ x.left ⊙ y.left ⊙ z.left)) (simp append_assoc);
         }
 

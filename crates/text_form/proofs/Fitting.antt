@@ -12,7 +12,7 @@ use lib.Dec.{ltb}
 use lib.IntN.{pos, negsuc}
 use lib.ListN.{length, get_or, take, length-append, length-take, get_or-eq_default}
 use lib.Seq.{take-append-le, take_all, get_or-take}
-use Rattle.l1.specs.Syntax.{plus, geq, Expr, int, bool, ◌‹◌#◌›◌, if◌then◌else◌, ◌:=◌, !◌, skip, ◌⨾◌, while◌do'◌done}
+use Rattle.l1.specs.Syntax.{plus, geq, Expr, int, bool, ◌‹◌#◌›◌, if◌then'◌else◌, ◌:=◌, !◌, skip, ◌⨾◌, while◌do'◌done}
 use Rattle.l1.specs.Text.{bytes, decimal, text}
 use Rattle.text_form.specs.Form.{OfForm, Begins, Leaves, wrong_byte, too_soon}
 use Rattle.text_form.specs.Automaton.{Sym, wanted, end, next, on, run, tally, sticks, rest, total}
@@ -97,7 +97,7 @@ small (bool true) = word (bytes "true") refl
 small (bool false) = word (bytes "false") refl
 small (e₁ ‹ plus # i › e₂) = word (bytes "(") refl ⊕ small e₁ ⊕ word (bytes " + ") refl ⊕ small e₂ ⊕ word (bytes ")") refl
 small (e₁ ‹ geq # i › e₂) = word (bytes "(") refl ⊕ small e₁ ⊕ word (bytes " >= ") refl ⊕ small e₂ ⊕ word (bytes ")") refl
-small (if e₁ then e₂ else e₃) =
+small (if e₁ then' e₂ else e₃) =
     word (bytes "(if ") refl ⊕ small e₁ ⊕ word (bytes " then ") refl ⊕ small e₂ ⊕ word (bytes " else ") refl ⊕ small e₃ ⊕ word (bytes ")") refl
 small (l := e) = word (bytes "(l") refl ⊕ number l ⊕ word (bytes " := ") refl ⊕ small e ⊕ word (bytes ")") refl
 small (! l) = word (bytes "!l") refl ⊕ number l

@@ -7,7 +7,7 @@ use mathlib.Core.List.{List, [], ◌∷◌, ◌++◌, append_assoc}
 use mathlib.Core.Option.{Option, none, some}
 use borrow.Author.Tests.{eq-eqb}
 use lib.IntN.{pos, negsuc}
-use Rattle.l1.specs.Syntax.{plus, geq, Expr, int, bool, ◌‹◌#◌›◌, if◌then◌else◌, ◌:=◌, !◌, skip, ◌⨾◌, while◌do'◌done}
+use Rattle.l1.specs.Syntax.{plus, geq, Expr, int, bool, ◌‹◌#◌›◌, if◌then'◌else◌, ◌:=◌, !◌, skip, ◌⨾◌, while◌do'◌done}
 use Rattle.l1.specs.Text.{bytes, digits, decimal, text}
 use Rattle.text_form.specs.Digits.{nonzero}
 use Rattle.text_form.specs.Automaton.{Stop, space, close, end, code, Sym, lit, wanted, natural, positive, more, opened, joint, choose, starts, begin, next, run}
@@ -88,7 +88,7 @@ text_run (bool true) c st u = literal st u (code c)
 text_run (bool false) c st u = literal st u (code c)
 text_run (e₁ ‹ plus # i › e₂) c st u = both_run (text e₁) (bytes "+ ") (text e₂) (text_run e₁ space) (λ st u. refl) (text_run e₂ close) c st u
 text_run (e₁ ‹ geq # i › e₂) c st u = both_run (text e₁) (bytes ">= ") (text e₂) (text_run e₁ space) (λ st u. refl) (text_run e₂ close) c st u
-text_run (if e₁ then e₂ else e₃) c st u =
+text_run (if e₁ then' e₂ else e₃) c st u =
     three (wanted c ∷ st) (bytes "(if ") (text e₁) (bytes " then ") (text e₂) (bytes " else ") (text e₃) (bytes ")") (code c ∷ u)
     ∙ text_run e₁ space _ _
     ∙ text_run e₂ space _ _

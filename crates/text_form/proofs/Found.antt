@@ -9,7 +9,7 @@ use borrow.Author.Tests.{lt-ltb, le-ltb, ne_eqb}
 use lib.Dec.{eqb}
 use lib.IntN.{ℤ, pos, negsuc}
 use lib.ListN.{drop}
-use Rattle.l1.specs.Syntax.{Op, plus, geq, Expr, int, bool, ◌‹◌#◌›◌, if◌then◌else◌, ◌:=◌, !◌, skip, ◌⨾◌, while◌do'◌done}
+use Rattle.l1.specs.Syntax.{Op, plus, geq, Expr, int, bool, ◌‹◌#◌›◌, if◌then'◌else◌, ◌:=◌, !◌, skip, ◌⨾◌, while◌do'◌done}
 use Rattle.l1.specs.Measures.{size, places}
 use Rattle.l1.specs.Text.{bytes, sign, decimal, text}
 use Rattle.l1.proofs.Depth.{depth, places_below_depth}
@@ -83,7 +83,7 @@ begins (int (negsuc n)) w = (refl, refl, refl)
 begins (bool true) w = (refl, refl, refl)
 begins (bool false) w = (refl, refl, refl)
 begins (e₁ ‹ o # i › e₂) w = (refl, refl, refl)
-begins (if e₁ then e₂ else e₃) w = (refl, refl, refl)
+begins (if e₁ then' e₂ else e₃) w = (refl, refl, refl)
 begins (l := e) w = (refl, refl, refl)
 begins (! l) w = (refl, refl, refl)
 begins skip w = (refl, refl, refl)
@@ -141,7 +141,7 @@ module _ (cap : ℕ) where
             rw (group (text e₁) (bytes " do ") (text e₂) (bytes " done)") u, p₁ f (bytes " do " ++ v) (omega arith) refl, p₂ (f + size e₁) (bytes " done)" ++ u) (omega arith) refl)
             (node_found (f + size e₁ + size e₂) _ _ u (omega arith) (omega arith))
 
-        pub if_formed : (e₃ : Expr) → Finds (1 + k) e₂ → Finds (1 + k) e₃ → Formed (if e₁ then e₂ else e₃)
+        pub if_formed : (e₃ : Expr) → Finds (1 + k) e₂ → Finds (1 + k) e₃ → Formed (if e₁ then' e₂ else e₃)
         unfolding text form_of head_of second_of besides branch_of joint_of word_joint behind
         if_formed e₃ p₂ p₃ f u h =
             let w = bytes " else " ++ (text e₃ ++ 41 ∷ u) in
@@ -187,7 +187,7 @@ parse_finds (e₁ ‹ o # i › e₂) cap j k f u s d p h c =
     bracketed cap j k f _ (omega (arith, places_below_depth e₁)) (omega arith)
     ∙ op_formed cap (parse cap (j - 1)) (k - 1) e₁ e₂ (λ g v. parse_finds e₁ cap (j - 1) (k - 1) g v s.0 (omega arith) (omega arith))
     (λ g v. parse_finds e₂ cap (j - 1) (k - 1) g v s.1 (omega arith) (omega arith)) o i f u h
-parse_finds (if e₁ then e₂ else e₃) cap j k f u s d p h c =
+parse_finds (if e₁ then' e₂ else e₃) cap j k f u s d p h c =
     bracketed cap j k f _ (omega (arith, places_below_depth e₁)) (omega arith)
     ∙ if_formed cap (parse cap (j - 1)) (k - 1) e₁ e₂ (λ g v. parse_finds e₁ cap (j - 1) (k - 1) g v s.0 (omega arith) (omega arith)) e₃
     (λ g v. parse_finds e₂ cap (j - 1) (1 + (k - 1)) g v s.1 (omega arith) (omega arith))

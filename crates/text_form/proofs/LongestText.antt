@@ -4,7 +4,7 @@ use native.Mathlib.Omega.{arith}
 use mathlib.Core.Bool.{true, false}
 use lib.IntN.{pos, negsuc}
 use lib.ListN.{length, length-append}
-use Rattle.l1.specs.Syntax.{plus, geq, Expr, int, bool, ◌‹◌#◌›◌, if◌then◌else◌, ◌:=◌, !◌, skip, ◌⨾◌, while◌do'◌done}
+use Rattle.l1.specs.Syntax.{plus, geq, Expr, int, bool, ◌‹◌#◌›◌, if◌then'◌else◌, ◌:=◌, !◌, skip, ◌⨾◌, while◌do'◌done}
 use Rattle.l1.specs.Measures.{size}
 use Rattle.l1.specs.Text.{decimal, text}
 use Rattle.l1.proofs.Decimal.{decimal_length}
@@ -24,7 +24,7 @@ bytes_by_nodes (bool true) s = omega arith
 bytes_by_nodes (bool false) s = omega arith
 bytes_by_nodes (e₁ ‹ plus # i › e₂) (s, t) = simp length-append (omega (arith, bytes_by_nodes e₁ s, bytes_by_nodes e₂ t))
 bytes_by_nodes (e₁ ‹ geq # i › e₂) (s, t) = simp length-append (omega (arith, bytes_by_nodes e₁ s, bytes_by_nodes e₂ t))
-bytes_by_nodes (if e₁ then e₂ else e₃) (s, t, u) =
+bytes_by_nodes (if e₁ then' e₂ else e₃) (s, t, u) =
     simp length-append (omega (arith, bytes_by_nodes e₁ s, bytes_by_nodes e₂ t, bytes_by_nodes e₃ u))
 bytes_by_nodes (l := e) (h, s) = simp length-append (omega (arith, three_digits l h, bytes_by_nodes e s))
 bytes_by_nodes (! l) s = omega (arith, three_digits l s)

@@ -8,7 +8,7 @@ use mathlib.Core.Logic.{⊎_elim}
 use mathlib.Core.List.{List, [], ◌∷◌, ◌++◌}
 use lib.IntN.{ℤ, pos, negsuc}
 use lib.ListN.{length, length-append}
-use Rattle.l1.specs.Syntax.{Expr, int, bool, ◌‹◌#◌›◌, if◌then◌else◌, ◌:=◌, !◌, skip, ◌⨾◌, while◌do'◌done}
+use Rattle.l1.specs.Syntax.{Expr, int, bool, ◌‹◌#◌›◌, if◌then'◌else◌, ◌:=◌, !◌, skip, ◌⨾◌, while◌do'◌done}
 use Rattle.l1.specs.Range.{InRange}
 use Rattle.l1.specs.Measures.{size, places}
 use Rattle.l1.specs.Refused.{nodes, Nth, nth_zero, nth_suc}
@@ -23,7 +23,7 @@ abbrev pub renumber : ℕ → Expr → Expr
 renumber f (int n) = int n
 renumber f (bool b) = bool b
 renumber f (e₁ ‹ o # i › e₂) = renumber f e₁ ‹ o # f + size e₁ + size e₂ › renumber (f + size e₁) e₂
-renumber f (if e₁ then e₂ else e₃) = if renumber f e₁ then renumber (f + size e₁) e₂ else renumber (f + size e₁ + size e₂) e₃
+renumber f (if e₁ then' e₂ else e₃) = if renumber f e₁ then' renumber (f + size e₁) e₂ else renumber (f + size e₁ + size e₂) e₃
 renumber f (l := e) = l := renumber f e
 renumber f (! l) = ! l
 renumber f skip = skip
@@ -53,7 +53,7 @@ held (e₁ ‹ o # i › e₂) f t =
     let l : length (nodes e₁ ++ nodes e₂) ≡ size e₁ + size e₂ = simp (length-append, nodes_length) in
     let q : f + size e₁ + size e₂ ≡ i = omega arith in
     record { small = (h₁.small, h₂.small); own = rw (h₁.own, h₂.own, q) }
-held (if e₁ then e₂ else e₃) f t =
+held (if e₁ then' e₂ else e₃) f t =
     let c = fits_left (nodes e₁ ++ nodes e₂ ++ nodes e₃) _ t in
     let h₁ = held e₁ f (fits_first e₁ e₂ _ c) in let h₂ = held e₂ (f + size e₁) (fits_second e₁ e₂ _ c) in
     let h₃ = held e₃ (f + size e₁ + size e₂) (fits_rest e₁ e₂ _ c) in
@@ -80,7 +80,7 @@ abbrev Ok : ℕ → Expr → Type 0
 Ok i (int n) = InRange n
 Ok i (bool b) = Unit
 Ok i (e₁ ‹ o # j › e₂) = j ≡ i
-Ok i (if e₁ then e₂ else e₃) = Unit
+Ok i (if e₁ then' e₂ else e₃) = Unit
 Ok i (l := e) = l ≤ 255
 Ok i (! l) = l ≤ 255
 Ok i skip = Unit
@@ -114,13 +114,13 @@ all_ok (bool b) f s q = one_ok f (bool b) tt
 all_ok (e₁ ‹ o # i › e₂) f s q =
     let h : f + size e₁ + size e₂ ≡ i = cc in
     two_ok e₁ e₂ (e₁ ‹ o # i › e₂) f (all_ok e₁ f s.0 (cc)) (all_ok e₂ (f + size e₁) s.1 (cc)) (omega arith)
-all_ok (if e₁ then e₂ else e₃) f s q =
+all_ok (if e₁ then' e₂ else e₃) f s q =
     let l₁ = nodes_length e₁ in let l₂ = nodes_length e₂ in let l₃ = nodes_length e₃ in
     both_ok (nodes e₁ ++ nodes e₂ ++ nodes e₃) _ (simp length-append (omega arith))
     (both_ok (nodes e₁ ++ nodes e₂) (nodes e₃) (simp length-append (omega arith))
     (both_ok (nodes e₁) (nodes e₂) (omega arith) (all_ok e₁ f s.0 (cc)) (all_ok e₂ (f + size e₁) s.1 (cc)))
     (all_ok e₃ (f + size e₁ + size e₂) s.2 (cc)))
-    (one_ok (f + size e₁ + size e₂ + size e₃) (if e₁ then e₂ else e₃) tt)
+    (one_ok (f + size e₁ + size e₂ + size e₃) (if e₁ then' e₂ else e₃) tt)
 all_ok (l := e) f s q =
     let n = nodes_length e in
     both_ok (nodes e) _ (omega arith) (all_ok e f s.1 (cc)) (one_ok (f + size e) (l := e) s.0)

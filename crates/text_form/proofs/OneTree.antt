@@ -9,7 +9,7 @@ use mathlib.Core.Option.{Option, some, some-injective}
 use lib.Dec.{eqb}
 use lib.IntN.{ℤ, pos, negsuc}
 use lib.ListN.{drop}
-use Rattle.l1.specs.Syntax.{Op, Loc, Expr, int, bool, ◌‹◌#◌›◌, if◌then◌else◌, ◌:=◌, !◌, skip, ◌⨾◌, while◌do'◌done}
+use Rattle.l1.specs.Syntax.{Op, Loc, Expr, int, bool, ◌‹◌#◌›◌, if◌then'◌else◌, ◌:=◌, !◌, skip, ◌⨾◌, while◌do'◌done}
 use Rattle.l1.specs.Measures.{size, places}
 use Rattle.l1.specs.Text.{bytes, sign, decimal, text}
 use Rattle.l1.proofs.Depth.{depth, places_below_depth}
@@ -83,7 +83,7 @@ module _ (cap : ℕ) where
   any_finds (e₁ ‹ o # i › e₂) k f u d h c =
       bracketed k f _ (omega (arith, places_below_depth e₁)) ∙ form_any_lem (parse_any (k - 1)) f e₁ (sign o) (text e₂) (bytes ")") u
       ∙ op_formed cap (λ _. parse_any (k - 1)) 0 e₁ e₂ (λ g v. any_finds e₁ (k - 1) g v (omega arith)) (λ g v. any_finds e₂ (k - 1) g v (omega arith)) o i f u h
-  any_finds (if e₁ then e₂ else e₃) k f u d h c =
+  any_finds (if e₁ then' e₂ else e₃) k f u d h c =
       bracketed k f _ (omega (arith, places_below_depth e₁))
       ∙ if_formed cap (λ _. parse_any (k - 1)) 0 e₁ e₂ (λ g v. any_finds e₁ (k - 1) g v (omega arith)) e₃ (λ g v. any_finds e₂ (k - 1) g v (omega arith)) (λ g v. any_finds e₃ (k - 1) g v (omega arith)) f u h
   any_finds (l := e) k f u d h c =
@@ -120,7 +120,7 @@ data Alike : Expr → Expr → Type 0 where
   ints : {n : ℤ} → Alike (int n) (int n)
   bools : {b : Bool} → Alike (bool b) (bool b)
   ops : {o : Op} {i j : ℕ} {a b c d : Expr} → Alike a c → Alike b d → Alike (a ‹ o # i › b) (c ‹ o # j › d)
-  ifs : {a b c x y z : Expr} → Alike a x → Alike b y → Alike c z → Alike (if a then b else c) (if x then y else z)
+  ifs : {a b c x y z : Expr} → Alike a x → Alike b y → Alike c z → Alike (if a then' b else c) (if x then' y else z)
   assigns : {l : Loc} {a b : Expr} → Alike a b → Alike (l := a) (l := b)
   derefs : {l : Loc} → Alike (! l) (! l)
   skips : Alike skip skip
@@ -132,7 +132,7 @@ renumbered : (e : Expr) (f : ℕ) → Alike e (renumber f e) × Alike (renumber 
 renumbered (int n) f = (ints, ints)
 renumbered (bool b) f = (bools, bools)
 renumbered (e₁ ‹ o # i › e₂) f = let (p, q) = renumbered e₁ f in let (r, s) = renumbered e₂ (f + size e₁) in (ops p r, ops q s)
-renumbered (if e₁ then e₂ else e₃) f =
+renumbered (if e₁ then' e₂ else e₃) f =
     let (p, q) = renumbered e₁ f in let (r, s) = renumbered e₂ (f + size e₁) in let (t, u) = renumbered e₃ (f + size e₁ + size e₂) in (ifs p r t, ifs q s u)
 renumbered (l := e) f = let (p, q) = renumbered e f in (assigns p, assigns q)
 renumbered (! l) f = (derefs, derefs)

@@ -9,7 +9,7 @@ use borrow.Author.Tests.{ltb-true, ltb-false, eqb-true, eqb-false}
 use lib.Dec.{ltb, eqb}
 use lib.IntN.{pos, negsuc}
 use lib.ListN.{length, length-append, get_or, drop}
-use Rattle.l1.specs.Syntax.{Op, plus, geq, Loc, Expr, int, bool, ◌‹◌#◌›◌, if◌then◌else◌, ◌:=◌, !◌, skip, ◌⨾◌, while◌do'◌done}
+use Rattle.l1.specs.Syntax.{Op, plus, geq, Loc, Expr, int, bool, ◌‹◌#◌›◌, if◌then'◌else◌, ◌:=◌, !◌, skip, ◌⨾◌, while◌do'◌done}
 use Rattle.l1.specs.Measures.{size, places}
 use Rattle.l1.specs.Text.{bytes, sign, decimal, text}
 use Rattle.l1.proofs.Depth.{depth_by_places}
@@ -219,7 +219,7 @@ module _ (cap k : ℕ) (sub : ℕ → ℕ → List ℕ → Option Parsed) (sound
 
     if_made : (q t : Parsed) (x y : List ℕ) → p.left ≡ bytes " then " ++ v → Sound cap (1 + k) p.node v q → q.left ≡ bytes " else " ++ x
         → Sound cap (1 + k) q.node x t → t.left ≡ bytes ")" ++ y → t.node < cap
-        → Sound cap (suc k) f (bytes "(if " ++ u) (parsed (if p.expr then q.expr else t.expr) (t.node + 1) y)
+        → Sound cap (suc k) f (bytes "(if " ++ u) (parsed (if p.expr then' q.expr else t.expr) (t.node + 1) y)
     unfolding text
     if_made q t x y h s₂ b s₃ c l =
         let n₂ : f + size p.expr ≡ p.node = omega arith in
@@ -334,7 +334,7 @@ nodes_by_length (bool true) = omega arith
 nodes_by_length (bool false) = omega arith
 nodes_by_length (e₁ ‹ plus # i › e₂) = simp length-append (omega (arith, nodes_by_length e₁, nodes_by_length e₂))
 nodes_by_length (e₁ ‹ geq # i › e₂) = simp length-append (omega (arith, nodes_by_length e₁, nodes_by_length e₂))
-nodes_by_length (if e₁ then e₂ else e₃) = simp length-append (omega (arith, nodes_by_length e₁, nodes_by_length e₂, nodes_by_length e₃))
+nodes_by_length (if e₁ then' e₂ else e₃) = simp length-append (omega (arith, nodes_by_length e₁, nodes_by_length e₂, nodes_by_length e₃))
 nodes_by_length (l := e) = simp length-append (omega (arith, nodes_by_length e))
 nodes_by_length (! l) = omega arith
 nodes_by_length skip = omega arith

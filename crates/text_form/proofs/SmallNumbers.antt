@@ -4,7 +4,7 @@ use native.Mathlib.Decide.{dec_lt}
 use native.Mathlib.Omega.{arith}
 use lib.IntN.{ℤ, pos, negsuc}
 use lib.Signed.{mag}
-use Rattle.l1.specs.Syntax.{Expr, int, bool, ◌‹◌#◌›◌, if◌then◌else◌, ◌:=◌, !◌, skip, ◌⨾◌, while◌do'◌done}
+use Rattle.l1.specs.Syntax.{Expr, int, bool, ◌‹◌#◌›◌, if◌then'◌else◌, ◌:=◌, !◌, skip, ◌⨾◌, while◌do'◌done}
 use Rattle.l1.proofs.Range.{in_range_mag}
 use Rattle.text_form.specs.Numbers.{Part, whole, op_left, op_right, if_test, if_then, if_else, assigned, seq_first, seq_second, while_test, while_body, LargeInteger, large_integer, LargeLocation, large_read, large_written}
 use Rattle.text_form.specs.Small.{Small}
@@ -30,7 +30,7 @@ small (int (pos n)) t = omega (arith, t.integers (pos n) (at whole))
 small (int (negsuc n)) t = omega (arith, t.integers (negsuc n) (at whole))
 small (bool b) t = tt
 small (e₁ ‹ o # i › e₂) t = (small e₁ (below t (λ i d p. at (op_left p))), small e₂ (below t (λ i d p. at (op_right p))))
-small (if e₁ then e₂ else e₃) t =
+small (if e₁ then' e₂ else e₃) t =
     (small e₁ (below t (λ i d p. at (if_test p))), small e₂ (below t (λ i d p. at (if_then p))), small e₃ (below t (λ i d p. at (if_else p))))
 small (l := e) t = (t.writes l e (at whole), small e (below t (λ i d p. at (assigned p))))
 small (! l) t = t.reads l (at whole)

@@ -2,7 +2,7 @@
 -- It stands beside `text` and Reading.antt and is held to them both ways (proofs/Parsing.antt): it finds the trees that a routine can hold, and no others.
 use Rattle.std.specs.Prelude.{ℕ, zero, suc, ◌+◌, ◌-◌, true, false, cond, List, [], ◌∷◌, ltb, eqb, pos, negsuc, get_or, drop}
 use Rattle.std.proofs.Math.Option.{Option, none, some}
-use Rattle.l1.specs.Syntax.{plus, geq, Loc, Expr, int, bool, ◌‹◌#◌›◌, if◌then◌else◌, ◌:=◌, !◌, skip, ◌⨾◌, while◌do'◌done}
+use Rattle.l1.specs.Syntax.{plus, geq, Loc, Expr, int, bool, ◌‹◌#◌›◌, if◌then'◌else◌, ◌:=◌, !◌, skip, ◌⨾◌, while◌do'◌done}
 use Rattle.l1.specs.Text.{bytes}
 use Rattle.text_form.specs.Digits.{nonzero, digits_of, beyond, value_from}
 
@@ -149,7 +149,7 @@ module _ (cap : ℕ) (sub : ℕ → ℕ → List ℕ → Option Parsed) (k : ℕ
       on (behind (bytes " else ") q.left) (λ v.
       on (sub (1 + k) q.node v) (λ s.
       on (behind (bytes ")") s.left) (λ w.
-      noded cap s.node (if p.expr then q.expr else s.expr) w)))
+      noded cap s.node (if p.expr then' q.expr else s.expr) w)))
 
   -- the second part and what is behind it
   unfoldable pub second_of : Parsed → Joint → Option Parsed

@@ -1,6 +1,6 @@
 -- Trees whose numbers a routine can hold, and texts of no tree that it can hold: for contracts.
 use Rattle.std.specs.Prelude.{ℕ, ◌≤◌, ◌≡◌, List, pos, negsuc}
-use Rattle.l1.specs.Syntax.{Expr, int, bool, ◌‹◌#◌›◌, if◌then◌else◌, ◌:=◌, !◌, skip, ◌⨾◌, while◌do'◌done}
+use Rattle.l1.specs.Syntax.{Expr, int, bool, ◌‹◌#◌›◌, if◌then'◌else◌, ◌:=◌, !◌, skip, ◌⨾◌, while◌do'◌done}
 use Rattle.l1.specs.Measures.{size, places}
 use Rattle.l1.specs.Text.{text}
 use Rattle.text_form.specs.Numbers.{LargeInteger, LargeLocation}
@@ -11,7 +11,7 @@ Small (int (pos n)) = n ≤ 2147483647
 Small (int (negsuc n)) = n ≤ 2147483647
 Small (bool b) = Unit
 Small (e₁ ‹ o # i › e₂) = Small e₁ × Small e₂
-Small (if e₁ then e₂ else e₃) = Small e₁ × Small e₂ × Small e₃
+Small (if e₁ then' e₂ else e₃) = Small e₁ × Small e₂ × Small e₃
 Small (l := e) = (l ≤ 255) × Small e
 Small (! l) = l ≤ 255
 Small skip = Unit

@@ -10,7 +10,7 @@ use lib.Dec.{eqb}
 use lib.IntN.{pos, negsuc}
 use lib.ListN.{length, get_or, drop, drop_of_length-le}
 use lib.Seq.{drop-cons}
-use Rattle.l1.specs.Syntax.{plus, geq, Expr, int, bool, ◌‹◌#◌›◌, if◌then◌else◌, ◌:=◌, !◌, skip, ◌⨾◌, while◌do'◌done}
+use Rattle.l1.specs.Syntax.{plus, geq, Expr, int, bool, ◌‹◌#◌›◌, if◌then'◌else◌, ◌:=◌, !◌, skip, ◌⨾◌, while◌do'◌done}
 use Rattle.l1.specs.Measures.{size}
 use Rattle.l1.specs.Text.{decimal, text}
 use Rattle.text_form.proofs.Notation.{Digits, none, ◌then◌, digit_is, digits_decimal}
@@ -51,7 +51,7 @@ nodes (bool true) = refl
 nodes (bool false) = refl
 nodes (e₁ ‹ plus # i › e₂) = simp tally_append (omega (arith, nodes e₁, nodes e₂))
 nodes (e₁ ‹ geq # i › e₂) = simp tally_append (omega (arith, nodes e₁, nodes e₂))
-nodes (if e₁ then e₂ else e₃) = simp tally_append (omega (arith, nodes e₁, nodes e₂, nodes e₃))
+nodes (if e₁ then' e₂ else e₃) = simp tally_append (omega (arith, nodes e₁, nodes e₂, nodes e₃))
 nodes (l := e) = simp tally_append (omega (arith, nodes e, no_add l, no_take l))
 nodes (! l) = omega (arith, no_add l, no_take l)
 nodes skip = refl

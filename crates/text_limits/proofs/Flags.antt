@@ -8,7 +8,7 @@ use borrow.Author.Tests.{ne_eqb}
 use lib.Dec.{ltb}
 use lib.IntN.{pos, negsuc}
 use lib.ListN.{length, get_or}
-use Rattle.l1.specs.Syntax.{plus, geq, Expr, int, bool, ◌‹◌#◌›◌, if◌then◌else◌, ◌:=◌, !◌, skip, ◌⨾◌, while◌do'◌done}
+use Rattle.l1.specs.Syntax.{plus, geq, Expr, int, bool, ◌‹◌#◌›◌, if◌then'◌else◌, ◌:=◌, !◌, skip, ◌⨾◌, while◌do'◌done}
 use Rattle.l1.specs.Text.{bytes, sign, truth, decimal, text}
 use Rattle.text_form.specs.Digits.{digit}
 use Rattle.text_form.proofs.Notation.{Digits, none, ◌then◌, digit_is, digits_decimal, digits_front, value_decimal}
@@ -28,7 +28,7 @@ flags loc (int (pos n)) = first (behind loc 32 && ltb (bound loc) n) (decimal n)
 flags loc (int (negsuc n)) = (not loc && ltb 2147483648 (suc n)) ∷ first false (decimal (suc n))
 flags loc (bool b) = blank (truth b)
 flags loc (e₁ ‹ o # i › e₂) = blank (bytes "(") ++ flags loc e₁ ++ blank (sign o) ++ flags loc e₂ ++ blank (bytes ")")
-flags loc (if e₁ then e₂ else e₃) =
+flags loc (if e₁ then' e₂ else e₃) =
     blank (bytes "(if ") ++ flags loc e₁ ++ blank (bytes " then ") ++ flags loc e₂ ++ blank (bytes " else ") ++ flags loc e₃ ++ blank (bytes ")")
 flags loc (l := e) = blank (bytes "(l") ++ first (behind loc 108 && ltb (bound loc) l) (decimal l) ++ blank (bytes " := ") ++ flags loc e ++ blank (bytes ")")
 flags loc (! l) = blank (bytes "!l") ++ first (behind loc 108 && ltb (bound loc) l) (decimal l)
@@ -118,7 +118,7 @@ module _ (loc : Bool) where
       ended (piece (piece (bare (bytes "(") (λ x. refl)) (marked e₁ bracket) (bytes " + ") (λ x. space) (λ x. refl)) (marked e₂ space) (bytes ")") (λ x. bracket) (λ x. refl))
   marked (e₁ ‹ geq # i › e₂) b =
       ended (piece (piece (bare (bytes "(") (λ x. refl)) (marked e₁ bracket) (bytes " >= ") (λ x. space) (λ x. refl)) (marked e₂ space) (bytes ")") (λ x. bracket) (λ x. refl))
-  marked (if e₁ then e₂ else e₃) b =
+  marked (if e₁ then' e₂ else e₃) b =
       let t = piece (bare (bytes "(if ") (λ x. refl)) (marked e₁ space) (bytes " then ") (λ x. space) (λ x. refl) in
       ended (piece (piece t (marked e₂ space) (bytes " else ") (λ x. space) (λ x. refl)) (marked e₃ space) (bytes ")") (λ x. bracket) (λ x. refl))
   marked (l := e) b =

@@ -10,7 +10,7 @@ use lib.Dec.{ltb}
 use lib.IntN.{ℤ, pos, negsuc}
 use lib.ListN.{length, length-append}
 use lib.Signed.{mag}
-use Rattle.l1.specs.Syntax.{Expr, int, bool, ◌‹◌#◌›◌, if◌then◌else◌, ◌:=◌, !◌, skip, ◌⨾◌, while◌do'◌done}
+use Rattle.l1.specs.Syntax.{Expr, int, bool, ◌‹◌#◌›◌, if◌then'◌else◌, ◌:=◌, !◌, skip, ◌⨾◌, while◌do'◌done}
 use Rattle.l1.specs.Range.{InRange}
 use Rattle.l1.specs.Text.{bytes, sign, truth, decimal, text}
 use Rattle.l1.proofs.Range.{in_range_mag, out_of_range_mag, in_or_out}
@@ -175,7 +175,7 @@ module _ (loc : Bool) where
   told (bool b) = bare (truth b)
   told (e₁ ‹ o # i › e₂) =
       kid (kid (bare (bytes "(")) (lit (bytes "(")) (λ i d p. op_left p) (told e₁) (sign o)) (lit (bytes "(") ⊕ of loc e₁ ⊕ lit (sign o)) (λ i d p. op_right p) (told e₂) (bytes ")")
-  told (if e₁ then e₂ else e₃) =
+  told (if e₁ then' e₂ else e₃) =
       let s = lit (bytes "(if ") ⊕ of loc e₁ ⊕ lit (bytes " then ") in
       let t = kid (kid (bare (bytes "(if ")) (lit (bytes "(if ")) (λ i d p. if_test p) (told e₁) (bytes " then ")) s (λ i d p. if_then p) (told e₂) (bytes " else ") in
       kid t (s ⊕ of loc e₂ ⊕ lit (bytes " else ")) (λ i d p. if_else p) (told e₃) (bytes ")")
