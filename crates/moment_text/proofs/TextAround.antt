@@ -8,11 +8,14 @@ use lib.ListN.{length, get_or, length-append}
 use Rattle.l1.specs.Syntax.{Expr}
 use Rattle.l1.specs.Text.{text}
 use Rattle.machine.specs.Contexts.{Context, in_op1, in_op2, in_if3, in_assign2, in_seq2, fill, plug}
-use Rattle.machine.specs.State.{context_of, blank, stack}
+use Rattle.machine.specs.Lent.{frames_of}
+use Rattle.machine.specs.State.{context_of, expr_of, blank, stack}
 use Rattle.machine.specs.declared.state.Frame.{Frame}
 use Rattle.machine.specs.declared.state.Place.{Place}
 use Rattle.machine.specs.declared.state.Place.TheVariants.{Blank, PlusLeft, GeqLeft, PlusRight, GeqRight, Test, Again, Store, First}
+use Rattle.machine.specs.declared.state.Work.{Work}
 use Rattle.moment_text.specs.Around.{opening, closing, opens, closes, opening_of, opens_of}
+use Rattle.moment_text.specs.Stand.{moment_text}
 
 text_fill : (f : Context) (e : Expr) → text (fill f e) ≡ opening f ++ text e ++ closing f
 unfolding text
@@ -61,3 +64,21 @@ opens_grow fs j (suc h) l =
       | yes p ↦ omega (arith, opens_grow fs j h p, more)
       | no p ↦ let e : j ≡ h = omega arith in rw e (omega (arith, more))
     ]
+
+-- the length of what opens and closes the places below j
+abbrev pub around : List ℕ → List Frame → ℕ → ℕ
+around b fs j = length (opens_of fs j) + length (closes (stack b fs j))
+
+pub around_more : (b : List ℕ) (fs : List Frame) (j : ℕ) → let f = (get_or fs j blank).place in around b fs (suc j) ≡ around b fs j + (length (opening_of f) + length (closing (context_of b f)))
+around_more b fs j =
+    let f = (get_or fs j blank).place in
+    omega (arith, length-append (opens_of fs j) (opening_of f), length-append (closing (context_of b f)) (closes (stack b fs j)))
+
+pub length_around : (b ps : List ℕ) (h : ℕ) (x : Work) → length (moment_text b ps h x) ≡ length (text (expr_of b x)) + around b (frames_of ps) h
+length_around b ps h x = omega (arith, length_plug (stack b (frames_of ps) h) (expr_of b x), ap length (opens_of_lem b (frames_of ps) h))
+
+-- the moment's text in the pieces that are written
+pub moment_pieces : (b ps : List ℕ) (h : ℕ) (x : Work) → let fs = frames_of ps in moment_text b ps h x ≡ opens_of fs h ++ text (expr_of b x) ++ closes (stack b fs h)
+moment_pieces b ps h x =
+    let fs = frames_of ps in
+    text_plug (stack b fs h) (expr_of b x) ∙ ap (λ (t : List ℕ). t ++ text (expr_of b x) ++ closes (stack b fs h)) (opens_of_lem b fs h)
