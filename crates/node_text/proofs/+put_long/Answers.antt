@@ -7,7 +7,7 @@ use Rattle.node_text.proofs.PutLaws.{put_more, room_first, room_rest}
 use Rattle.node_text.proofs.+put_long.Goals as goal
 
 pub put_byte-requires : goal.put_byte-requires
-put_byte-requires t c = omega (arith, ap length (one_digit c.args.n c.if-n-lt-TWO_DIGITS.true), c.requires)
+put_byte-requires t c = omega (arith, ap length (one_digit c.args.n (omega arith)), c.requires)
 
 pub put_long-p-requires : goal.put_long-p-requires
 put_long-p-requires t c =
@@ -21,7 +21,7 @@ put_byte-requires-else-n-lt-TWO_DIGITS t c =
     omega (arith, room_rest ((48 + c.args.n % 10) ∷ []) c.put_long-p.ensures room)
 
 pub returns-then-n-lt-TWO_DIGITS : goal.returns-then-n-lt-TWO_DIGITS
-returns-then-n-lt-TWO_DIGITS t c = rw (one_digit _ c.if-n-lt-TWO_DIGITS.true, ← c.digit.ensures) c.put_byte.ensures
+returns-then-n-lt-TWO_DIGITS t c = rw (one_digit c.args.n (omega arith), ← c.digit.ensures) c.put_byte.ensures
 
 pub returns-else-n-lt-TWO_DIGITS : goal.returns-else-n-lt-TWO_DIGITS
 returns-else-n-lt-TWO_DIGITS t c =
