@@ -8,7 +8,7 @@ use opener::Opened;
 use routine::{Refusal, Sizes};
 
 // What is lent: nothing, a store of so many entries, or so many bytes of input after the routine.
-#[derive(Drop)]
+#[derive(Clone, Copy)]
 pub enum Lent {
     Nothing,
     Store(usize),

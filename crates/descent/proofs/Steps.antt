@@ -172,10 +172,6 @@ module _ {t nodes : List ℕ} {d f : ℕ} {o : Option Parsed} {i : ℕ} {ws node
           let p = size_positive e in let q = L.room in
           record { count = m; positive = omega arith; small = omega arith }
 
--- a part has a node
-pub a_node : {t nodes nodes' : List ℕ} {f : ℕ} {o : Option Parsed} {r : Place} → Reading t nodes f o nodes' r → (r.at ≡ 0 → ⊥) → 1 ≤ r.node
-a_node R h = let (e, x, a, w, m, l) = R.something (over_zero h) in omega (arith, size_positive e)
-
 -- ---- the end
 
 -- the bytes b of node n are the root of e behind its parts

@@ -213,6 +213,7 @@ fn put_leaf(t: &[u8], i: usize, nodes: &mut [u8], f: usize) -> Place
 // An if, from behind its bracket on, as the forms below; `places` are those of a part inside it. A branch is worked in the if's own place, so it
 // may have one more.
 #[cycle(assign_form_expression_if_form_sides_while_form)]
+#[tactic(auto, using(l1::proofs::Nodes::size_positive))]
 fn if_form(t: &[u8], i: usize, levels: usize, places: usize, nodes: &mut [u8], f: usize) -> Place
     requires { (i ≤ length t.now) × (length nodes.old ≤ 32768) × (places < 18446744073709551615) × (get_or t.now i 256 ≡ 105) }
     ensures { Reading t.now nodes.old f (p.form_of (length nodes.old / 8) (p.parse (length nodes.old / 8) levels) places f (drop i t.now)) nodes.new result }
@@ -250,6 +251,7 @@ fn if_form(t: &[u8], i: usize, levels: usize, places: usize, nodes: &mut [u8], f
 
 // A while.
 #[cycle(assign_form_expression_if_form_sides_while_form)]
+#[tactic(auto, using(l1::proofs::Nodes::size_positive))]
 fn while_form(t: &[u8], i: usize, levels: usize, places: usize, nodes: &mut [u8], f: usize) -> Place
     requires { (i ≤ length t.now) × (length nodes.old ≤ 32768) × (get_or t.now i 256 ≡ 119) }
     ensures { Reading t.now nodes.old f (p.form_of (length nodes.old / 8) (p.parse (length nodes.old / 8) levels) places f (drop i t.now)) nodes.new result }
@@ -279,6 +281,7 @@ fn while_form(t: &[u8], i: usize, levels: usize, places: usize, nodes: &mut [u8]
 
 // An assignment.
 #[cycle(assign_form_expression_if_form_sides_while_form)]
+#[tactic(auto, using(l1::proofs::Nodes::size_positive))]
 fn assign_form(
     t: &[u8],
     i: usize,
@@ -319,6 +322,7 @@ fn besides(places: usize, kind: usize) -> usize
 
 // A form with two sides, which no byte tells before the first is read.
 #[cycle(assign_form_expression_if_form_sides_while_form)]
+#[tactic(auto, using(l1::proofs::Nodes::size_positive))]
 fn sides(t: &[u8], i: usize, levels: usize, places: usize, nodes: &mut [u8], f: usize) -> Place
     requires { (i ≤ length t.now) × (length nodes.old ≤ 32768) × (places < 18446744073709551615) × (get_or t.now i 256 ≡ 105 → ⊥) × (get_or t.now i 256 ≡ 119 → ⊥) × (get_or t.now i 256 ≡ 108 → ⊥) }
     ensures { Reading t.now nodes.old f (p.form_of (length nodes.old / 8) (p.parse (length nodes.old / 8) levels) places f (drop i t.now)) nodes.new result }

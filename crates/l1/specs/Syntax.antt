@@ -1,6 +1,6 @@
 -- Section 2.3, "Syntax": the grammar of L1, as trees, and the types T.
--- The notes write `e1 op e2`, `if e1 then e2 else e3`, `l := e`, `!l`, `skip`, `e1; e2` and `while e1 do e2 done`. So do we, but for three
--- signs: the `;` is `⨾`, the `do` is `do'`, and an operator carries the number of the node where it is stored, `e₁ ‹ plus # i › e₂`. 01 names
+-- The notes write `e1 op e2`, `if e1 then e2 else e3`, `l := e`, `!l`, `skip`, `e1; e2` and `while e1 do e2 done`. So do we, but for four
+-- signs: the `;` is `⨾`, the `do` is `do'`, the `then` is `then'`, and an operator carries the number of the node where it is stored, `e₁ ‹ plus # i › e₂`. 01 names
 -- a sum out of range by that number, and the copies that the rule `while` makes keep it. No other form's node is named once a step has been made.
 use Rattle.std.specs.Prelude.{ℕ, Bool, ℤ}
 

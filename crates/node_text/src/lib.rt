@@ -63,12 +63,15 @@ fn digit(n: u64) -> u8
     (48 + n % 10) as u8
 }
 
+// The least number of two digits.
+const TWO_DIGITS: u64 = 10;
+
 // A number of any length, a call for each digit.
 fn put_long(n: u64, buf: &mut [u8], at: usize) -> usize
     requires { at + length (decimal n) ≤ length buf.old }
     ensures { Put buf.old at (decimal n) buf.new result }
 {
-    if n < 10 {
+    if n < TWO_DIGITS {
         put_byte(digit(n), buf, at)
     } else {
         let p = put_long(n / 10, buf, at);

@@ -1,5 +1,5 @@
 -- Reading answers every text, every m and every lent room, by the definitions alone; with `reads_unique` there is exactly one answer.
-use Prim.Native.Nat.{ℕ, zero, suc, ◌+◌, ◌*◌, ◌≤◌, ◌<◌}
+use Prim.Native.Nat.{ℕ, zero, suc, ◌+◌, ◌*◌, ◌≤◌}
 use native.Mathlib.Decide.{dec_le, dec_lt}
 use native.Mathlib.Omega.{arith}
 use mathlib.Core.Path.{◌≡◌, refl, sym, ◌∙◌, ap}
@@ -12,7 +12,7 @@ use Rattle.l1.specs.Syntax.{Expr}
 use Rattle.l1.specs.Measures.{size}
 use Rattle.l1.specs.Text.{text}
 use Rattle.stored.specs.Stages.{Refusal, First}
-use Rattle.stored.specs.Stored.{stored, Storable}
+use Rattle.stored.specs.Stored.{Storable}
 use Rattle.stored.proofs.ReadBack.{stored_length}
 use Rattle.text_form.specs.Form.{OfForm, Leaves}
 use Rattle.text_form.specs.Small.{Unreadable, NoLargeInteger}

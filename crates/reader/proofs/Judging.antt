@@ -14,7 +14,7 @@ use Rattle.stored.specs.Stages.{no_with, ◌when◌, given, given_at, First}
 use Rattle.stored.proofs.Stages.{when_silent, at_silent, first_here, Past, past_none, past_more, first_now}
 use Rattle.text_form.specs.Form.{OfForm, Leaves}
 use Rattle.text_form.specs.Numbers.{LargeInteger, LargeLocation, Foremost}
-use Rattle.text_form.specs.Reading.{TextHas, of_text}
+use Rattle.text_form.specs.Reading.{of_text}
 use Rattle.text_form.specs.Small.{Unreadable, NoLargeInteger}
 use Rattle.text_form.proofs.OnePlace.{not_form}
 use Rattle.text_form.proofs.SmallNumbers.{no_large_small}

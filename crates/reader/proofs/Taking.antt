@@ -16,7 +16,7 @@ use Rattle.stored.proofs.Stages.{when_silent, first_here, first_later, first_for
 use Rattle.stored.proofs.ReadBack.{nodes_bytes, stored_length}
 use Rattle.text_form.specs.Reading.{of_text, too_short, Taken, taken, Reads, read_refuses, read_takes}
 use Rattle.text_form.specs.Small.{Unreadable}
-use Rattle.text_form.specs.Parser.{Parsed, parsed, parse}
+use Rattle.text_form.specs.Parser.{Parsed, parse}
 use Rattle.node_text.specs.Put.{Put}
 use Rattle.node_text.proofs.PutLaws.{put_more}
 use Rattle.descent.specs.Found.{Reading}

@@ -1,5 +1,4 @@
 -- The answer of the reader, in 02's numbers and values.
-use Rattle.std.specs.Prelude.{ℕ}
 use Rattle.stored.specs.Stages as S
 use Rattle.stored.specs.Stages.{no, no_with}
 use Rattle.text_form.specs.Reading as R

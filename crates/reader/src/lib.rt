@@ -29,7 +29,7 @@ const PLACES: usize = 256;
 const LEVELS: usize = 2175;
 
 // Why a text is not read: a case for each of request 1's numbers, with what the number also returns.
-#[derive(Drop)]
+#[derive(Clone, Copy)]
 pub enum Unread {
     Locations,
     NotOfForm(u64),

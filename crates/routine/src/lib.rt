@@ -13,7 +13,7 @@ ghost use Rattle.routine.specs.Open.{IsOpen};
 ghost use Rattle.routine.specs.View.{view_of};
 
 // Why a row is refused: a case for each of 01's numbers, with what the number also returns.
-#[derive(Drop)]
+#[derive(Clone, Copy)]
 pub enum Refusal {
     Short,
     Count,

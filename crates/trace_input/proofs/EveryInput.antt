@@ -1,5 +1,5 @@
 -- `trace` prints exactly one list of lines for every input, whatever it is: there is one, and `prints_unique` has that there is no other.
-use Prim.Native.Nat.{ℕ, zero, suc}
+use Prim.Native.Nat.{ℕ, zero, suc, ◌+◌}
 use native.Mathlib.Omega.{arith}
 use mathlib.Core.Path.{◌≡◌, refl, ap}
 use mathlib.Core.Logic.{⊎_elim}
@@ -16,7 +16,7 @@ use Rattle.checker.proofs.EveryRow.{Admitted, every_row}
 
 values_length : (b : List ℕ) (at m : ℕ) → length (values_from b at m) ≡ m
 values_length b at zero = refl
-values_length b at (suc m) = ap suc (values_length b _ m)
+values_length b at (suc m) = ap suc (values_length b (at + 4) m)
 
 module _ (input : List ℕ) where
   pub every_print : (ls : List (List ℕ)) × Prints input ls

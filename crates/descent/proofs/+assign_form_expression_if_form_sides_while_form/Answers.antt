@@ -2,7 +2,7 @@
 use Rattle.std.proofs.Common.{◌/◌, length, refl}
 use Rattle.descent.specs.Found.{while_kind}
 use Rattle.descent.proofs.Forms.{refused, unopened, no_more, opened}
-use Rattle.descent.proofs.Steps.{if_left, while_left, assign_left, sides_left, no_text, text_read, part_with, no_part, part_read, a_node, counts, if_rooted, assign_rooted, two_rooted, form_read}
+use Rattle.descent.proofs.Steps.{if_left, while_left, assign_left, sides_left, no_text, text_read, part_with, no_part, part_read, counts, if_rooted, assign_rooted, two_rooted, form_read}
 use Rattle.descent.proofs.+assign_form_expression_if_form_sides_while_form.Goals as goal
 
 pub assign_form-returns-then-n-eq0 : goal.assign_form-returns-then-n-eq0
@@ -30,9 +30,6 @@ assign_form-returns-then-e-eq0 t c =
     let l2 = text_read l1 c.spelled-a.ensures c.if-a-eq0.false (λ v. refl) in
     let l3 = part_read l2 c.expression-p.ensures c.if-p-eq0.false in
     no_text l3 c.spelled-e.ensures c.if-e-eq0.true
-
-pub assign_form-overflow_sub-p : goal.assign_form-overflow_sub-p
-assign_form-overflow_sub-p t c = a_node c.expression-p.ensures c.if-p-eq0.false
 
 pub assign_form-returns : goal.assign_form-returns
 assign_form-returns t c =
@@ -118,15 +115,6 @@ if_form-returns-then-e-eq0 t c =
     let l6 = part_read l5 c.expression-s.ensures c.if-s-eq0.false in
     no_text l6 c.spelled-e.ensures c.if-e-eq0.true
 
-pub if_form-overflow_sub-p : goal.if_form-overflow_sub-p
-if_form-overflow_sub-p t c = a_node c.expression-p.ensures c.if-p-eq0.false
-
-pub if_form-overflow_sub-q : goal.if_form-overflow_sub-q
-if_form-overflow_sub-q t c = a_node c.expression-q.ensures c.if-q-eq0.false
-
-pub if_form-overflow_sub-s : goal.if_form-overflow_sub-s
-if_form-overflow_sub-s t c = a_node c.expression-s.ensures c.if-s-eq0.false
-
 pub if_form-returns : goal.if_form-returns
 if_form-returns t c =
     let l0 = if_left c.args.t.now c.args.nodes.now c.args.levels c.args.places c.args.f c.args.i c.requires in
@@ -167,12 +155,6 @@ sides-returns-then-e-eq0 t c =
     let l3 = part_with l2 c.besides-k.ensures in
     let l4 = part_read l3 c.expression-q.ensures c.if-q-eq0.false in
     no_text l4 c.spelled-e.ensures c.if-e-eq0.true
-
-pub sides-overflow_sub-p : goal.sides-overflow_sub-p
-sides-overflow_sub-p t c = a_node c.expression-p.ensures c.if-p-eq0.false
-
-pub sides-overflow_sub-q : goal.sides-overflow_sub-q
-sides-overflow_sub-q t c = a_node c.expression-q.ensures c.if-q-eq0.false
 
 pub sides-returns : goal.sides-returns
 sides-returns t c =
@@ -219,12 +201,6 @@ while_form-returns-then-e-eq0 t c =
     let l3 = text_read l2 c.spelled-b.ensures c.if-b-eq0.false (λ v. refl) in
     let l4 = part_read l3 c.expression-q.ensures c.if-q-eq0.false in
     no_text l4 c.spelled-e.ensures c.if-e-eq0.true
-
-pub while_form-overflow_sub-p : goal.while_form-overflow_sub-p
-while_form-overflow_sub-p t c = a_node c.expression-p.ensures c.if-p-eq0.false
-
-pub while_form-overflow_sub-q : goal.while_form-overflow_sub-q
-while_form-overflow_sub-q t c = a_node c.expression-q.ensures c.if-q-eq0.false
 
 pub while_form-returns : goal.while_form-returns
 while_form-returns t c =

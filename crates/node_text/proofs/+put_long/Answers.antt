@@ -7,22 +7,22 @@ use Rattle.node_text.proofs.PutLaws.{put_more, room_first, room_rest}
 use Rattle.node_text.proofs.+put_long.Goals as goal
 
 pub put_byte-requires : goal.put_byte-requires
-put_byte-requires t c = omega (arith, ap length (one_digit c.args.n c.if-n-lt10.true), c.requires)
+put_byte-requires t c = omega (arith, ap length (one_digit c.args.n (omega arith)), c.requires)
 
 pub put_long-p-requires : goal.put_long-p-requires
 put_long-p-requires t c =
-    let left = c.if-n-lt10.false in
+    let left = c.if-n-lt-TWO_DIGITS.false in
     let room = rw (decimal_more c.args.n left) at c.requires in
     (omega arith, room_first c.args.at (decimal (c.args.n / 10)) ((48 + c.args.n % 10) ∷ []) c.args.buf.now room)
 
-pub put_byte-requires-else-n-lt10 : goal.put_byte-requires-else-n-lt10
-put_byte-requires-else-n-lt10 t c =
-    let room = rw (decimal_more c.args.n c.if-n-lt10.false) at c.requires in
+pub put_byte-requires-else-n-lt-TWO_DIGITS : goal.put_byte-requires-else-n-lt-TWO_DIGITS
+put_byte-requires-else-n-lt-TWO_DIGITS t c =
+    let room = rw (decimal_more c.args.n c.if-n-lt-TWO_DIGITS.false) at c.requires in
     omega (arith, room_rest ((48 + c.args.n % 10) ∷ []) c.put_long-p.ensures room)
 
-pub returns-then-n-lt10 : goal.returns-then-n-lt10
-returns-then-n-lt10 t c = rw (one_digit _ c.if-n-lt10.true, ← c.digit.ensures) c.put_byte.ensures
+pub returns-then-n-lt-TWO_DIGITS : goal.returns-then-n-lt-TWO_DIGITS
+returns-then-n-lt-TWO_DIGITS t c = rw (one_digit c.args.n (omega arith), ← c.digit.ensures) c.put_byte.ensures
 
-pub returns-else-n-lt10 : goal.returns-else-n-lt10
-returns-else-n-lt10 t c =
-    rw (decimal_more _ c.if-n-lt10.false, ← c.digit-else-n-lt10.ensures) (put_more c.put_long-p.ensures c.put_byte-else-n-lt10.ensures)
+pub returns-else-n-lt-TWO_DIGITS : goal.returns-else-n-lt-TWO_DIGITS
+returns-else-n-lt-TWO_DIGITS t c =
+    rw (decimal_more _ c.if-n-lt-TWO_DIGITS.false, ← c.digit-else-n-lt-TWO_DIGITS.ensures) (put_more c.put_long-p.ensures c.put_byte-else-n-lt-TWO_DIGITS.ensures)
