@@ -90,7 +90,7 @@ not_before l q p (more d ds) (ends_fuel d') = absurd (omega arith)
 not_before {f = suc f} {T = suc T} l q p (more d ds) (goes_on d' y) =
     let (r, q', p') = determinism (rw (q, p) at d) d' in
     let k : T ≤ f = omega arith in
-    let i = not_before k q' p' ds y in
+    let i = not_before {f = f} k q' p' ds y in
     omega arith
 
 -- fuel that is left changes nothing
