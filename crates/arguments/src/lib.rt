@@ -45,7 +45,7 @@ pub fn natural_in(s: &[u8], top: u64) -> Number
         Number::Is(n) => {
             let mut text = [0u8; 20];
             let end = node_text::put_decimal(n, &mut text, 0);
-            if check::same(s, &text[..end]) {
+            if s == &text[..end] {
                 Number::Is(n)
             } else {
                 Number::Not

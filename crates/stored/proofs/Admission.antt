@@ -1,15 +1,14 @@
 -- The admission of a row, whatever is lent with it: what opening refuses is refused; what opens and has no type is refused on type; and of what has a type
 -- only what is lent is left to refuse.
-use Prim.Native.Nat.{ℕ, ◌≤◌, ◌<◌}
+use Prim.Native.Nat.{ℕ, ◌<◌}
 use native.Mathlib.Omega.{arith}
 use mathlib.Core.Path.{◌≡◌, ap₂}
 use mathlib.Core.List.{List, ◌++◌}
-use lib.ListN.{length}
 use Rattle.l1.specs.Syntax.{Expr, Ty}
 use Rattle.l1.specs.Typing.{◌⊢◌∶◌}
 use Rattle.l1.specs.Refused.{Refused, Verdict, Judged, has_type, has_none}
 use Rattle.l1.proofs.Verdict.{typed_not_refused, refused_unique, verdict_judged}
-use Rattle.stored.specs.Stages.{Refusal, no, no_with, Stage, OneOf, given, given_one, Silent, Passes, First}
+use Rattle.stored.specs.Stages.{Refusal, no_with, Stage, OneOf, given_one, Silent, Passes, First}
 use Rattle.stored.specs.Refusals.{env, Holds, RootHas, Breaks, opening, typing, admission}
 use Rattle.stored.specs.Answers.{Opens, refuses, Opening, open_refuses}
 use Rattle.stored.proofs.Reader.{holds_unique}

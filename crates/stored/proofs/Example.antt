@@ -5,7 +5,7 @@ use mathlib.Core.Path.{◌≡◌, refl}
 use mathlib.Core.List.{List, [], ◌∷◌, ◌++◌}
 use lib.IntN.{ℤ, pos}
 use lib.Signed.{le_z_yes}
-use Rattle.l1.specs.Syntax.{Loc, Expr, int, plus, ◌‹◌#◌›◌, ◌:=◌, !◌, skip, v_skip, ty_unit}
+use Rattle.l1.specs.Syntax.{Loc, Expr, int, plus, ◌‹◌#◌›◌, ◌:=◌, !◌, v_skip, ty_unit}
 use Rattle.l1.specs.Typing.{◌declares◌, ◌⊢◌∶◌, t_assign, t_op+, t_deref, t_int}
 use Rattle.l1.specs.Range.{InRange}
 use Rattle.l1.specs.Steps.{op+, op1, deref, assign1, assign2}

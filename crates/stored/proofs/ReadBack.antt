@@ -1,5 +1,5 @@
 -- Reading the stored form of a tree gives the tree, and no refusal of 1 to 9.
-use Prim.Native.Nat.{ℕ, ◌+◌, ◌-◌, ◌*◌, ◌≤◌, ◌<◌}
+use Prim.Native.Nat.{ℕ, ◌+◌, ◌-◌, ◌*◌, ◌≤◌}
 use native.Mathlib.Omega.{arith}
 use native.Mathlib.Nat.{div-add-mod'}
 use mathlib.Core.Path.{◌≡◌, refl, sym, ◌∙◌, ap}

@@ -10,7 +10,7 @@ use Rattle.l1.specs.Syntax.{Expr}
 use Rattle.l1.specs.Measures.{size}
 use Rattle.l1.specs.Text.{text}
 use Rattle.stored.specs.Bytes.{byte}
-use Rattle.stored.specs.Stages.{◌at◌, Passes}
+use Rattle.stored.specs.Stages.{Passes}
 use Rattle.stored.specs.Stored.{stored, Storable}
 use Rattle.stored.specs.Refusals.{locations, opening}
 use Rattle.stored.specs.Answers.{Opens}

@@ -1,5 +1,5 @@
 -- 02, request 1: "51 integer out of range and 52 location over 255, each with the offset of the first such number's first byte, a minus included".
-use Rattle.std.specs.Prelude.{ℕ, ◌+◌, ◌≤◌, ◌<◌, List, ◌++◌, ℤ, length}
+use Rattle.std.specs.Prelude.{ℕ, ◌+◌, ◌≤◌, ◌<◌, ◌++◌, ℤ, length}
 use Rattle.l1.specs.Syntax.{Op, Loc, Expr, int, ◌‹◌#◌›◌, if◌then'◌else◌, ◌:=◌, !◌, ◌⨾◌, while◌do'◌done}
 use Rattle.l1.specs.Range.{InRange}
 use Rattle.l1.specs.Text.{bytes, sign, location, text}

@@ -3,7 +3,7 @@ use Rattle.std.specs.Prelude.{ℕ, ◌≤◌, ◌≡◌, List, pos, negsuc}
 use Rattle.l1.specs.Syntax.{Expr, int, bool, ◌‹◌#◌›◌, if◌then'◌else◌, ◌:=◌, !◌, skip, ◌⨾◌, while◌do'◌done}
 use Rattle.l1.specs.Measures.{size, places}
 use Rattle.l1.specs.Text.{text}
-use Rattle.text_form.specs.Numbers.{LargeInteger, LargeLocation}
+use Rattle.text_form.specs.Numbers.{LargeInteger}
 
 -- integers of 32 bits (`negsuc n` is −(n + 1)) and locations of one byte
 abbrev pub Small : Expr → Type 0

@@ -50,7 +50,7 @@ loop-height-smaller c =
     let t : ActAt c.args.b.now c.loop-height.s (pending_of c.loop-height.places c.loop-height.height) c.loop-height.machine (c.loop-height.height - c.takes-take.result) c.step-next.result =
     record { parts = q; stepped = rw c.place_at.ensures at c.step-next.ensures }
     in
-    less_left c.loop-height.invariant t c.is_over.ensures c.if-is_over.false c.if-limit-to.false c.grows.ensures c.put_place.ensures c.requires
+    less_left c.loop-height.invariant t c.is_over.ensures c.if-is_over.false (omega arith) c.grows.ensures c.put_place.ensures c.requires
 
 pub loop-height-preserved : goal.loop-height-preserved
 loop-height-preserved c =
@@ -58,7 +58,7 @@ loop-height-preserved c =
     let t : ActAt c.args.b.now c.loop-height.s (pending_of c.loop-height.places c.loop-height.height) c.loop-height.machine (c.loop-height.height - c.takes-take.result) c.step-next.result =
     record { parts = q; stepped = rw c.place_at.ensures at c.step-next.ensures }
     in
-    goes_on c.loop-height.invariant t c.is_over.ensures c.if-is_over.false c.if-limit-to.false c.grows.ensures c.put_place.ensures c.write.ensures
+    goes_on c.loop-height.invariant t c.is_over.ensures c.if-is_over.false (omega arith) c.grows.ensures c.put_place.ensures c.write.ensures
 
 pub returns-then-height-take : goal.returns-then-height-take
 returns-then-height-take c = out_at_value c.loop-height.invariant c.end_of-out.ensures (omega arith)

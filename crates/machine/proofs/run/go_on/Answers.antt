@@ -114,7 +114,7 @@ loop-x-smaller c =
     ]
     in
     let t : ActAt c.args.b.now c.loop-x.s c.loop-x.p c.loop-x.m c.if-takes-eq0.at c.step-next.result = record { parts = q; stepped = c.step-next.ensures } in
-    less_left c.loop-x.invariant t c.is_over.ensures c.if-is_over.false c.if-limit-to.false c.grows.ensures refl c.requires
+    less_left c.loop-x.invariant t c.is_over.ensures c.if-is_over.false (omega arith) c.grows.ensures refl c.requires
 
 pub loop-x-preserved : goal.loop-x-preserved
 loop-x-preserved c =
@@ -125,7 +125,7 @@ loop-x-preserved c =
     ]
     in
     let t : ActAt c.args.b.now c.loop-x.s c.loop-x.p c.loop-x.m c.if-takes-eq0.at c.step-next.result = record { parts = q; stepped = c.step-next.ensures } in
-    goes_on c.loop-x.invariant t c.is_over.ensures c.if-is_over.false c.if-limit-to.false c.grows.ensures refl c.write.ensures
+    goes_on c.loop-x.invariant t c.is_over.ensures c.if-is_over.false (omega arith) c.grows.ensures refl c.write.ensures
 
 pub returns-then-p-eq0 : goal.returns-then-p-eq0
 returns-then-p-eq0 c =
