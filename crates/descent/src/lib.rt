@@ -68,13 +68,16 @@ fn spelled(t: &[u8], i: usize, w: &[u8]) -> usize
     i + j
 }
 
+// The digit that no other follows: a 0 in front is a number alone.
+const LONE_DIGIT: usize = 48;
+
 // The number at i, without leading zeros and not over the bound.
 fn number_at(t: &[u8], i: usize, bound: usize) -> Number
     requires { (i ≤ length t.now) × (bound < 4294967296) }
     ensures { NumberAs t.now bound (p.number bound (drop i t.now)) result }
 {
     let b = peek(t, i);
-    if b == 48 {
+    if b == LONE_DIGIT {
         return Number {
             at: i + 1,
             value: 0,
@@ -312,12 +315,19 @@ fn assign_form(
     put_node(nodes, p.node, 5, n.value, p.node - 1, 0, 0, e)
 }
 
+// The kind whose second side is worked in its own place: a sequence.
+const IN_ITS_PLACE: usize = 8;
+
 // The places that a second side may have: one more in a sequence, which works it in its own place.
 fn besides(places: usize, kind: usize) -> usize
     requires { (places < 18446744073709551615) × (kind ≡ 4 → ⊥) }
     ensures { result ≡ p.besides places kind }
 {
-    if kind == 8 { places + 1 } else { places }
+    if kind == IN_ITS_PLACE {
+        places + 1
+    } else {
+        places
+    }
 }
 
 // A form with two sides, which no byte tells before the first is read.

@@ -4,10 +4,10 @@ use borrow.Author.Tests.{ne_eqb}
 use Rattle.text_form.specs.Parser.{besides}
 use Rattle.descent.proofs.besides.Goals as goal
 
-pub returns-then-kind-eq8 : goal.returns-then-kind-eq8
+pub returns-then-kind-eq-IN_ITS_PLACE : goal.returns-then-kind-eq-IN_ITS_PLACE
 unfolding besides
-returns-then-kind-eq8 c = rw c.if-kind-eq8.true (omega arith)
+returns-then-kind-eq-IN_ITS_PLACE c = rw c.if-kind-eq-IN_ITS_PLACE.true (omega arith)
 
-pub returns-else-kind-eq8 : goal.returns-else-kind-eq8
+pub returns-else-kind-eq-IN_ITS_PLACE : goal.returns-else-kind-eq-IN_ITS_PLACE
 unfolding besides
-returns-else-kind-eq8 c = rw (ne_eqb c.args.kind 4 c.requires.1, ne_eqb c.args.kind 8 c.if-kind-eq8.false) refl
+returns-else-kind-eq-IN_ITS_PLACE c = rw (ne_eqb c.args.kind 4 c.requires.1, ne_eqb c.args.kind 8 c.if-kind-eq-IN_ITS_PLACE.false) refl

@@ -5,18 +5,18 @@ use Rattle.descent.proofs.Numerals.{in_digits, ends_at_end, ends_at_byte, digits
 use Rattle.descent.proofs.number_at.Goals as goal
 use Rattle.descent.proofs.number_at.Goals.{else-loop-k-test, then-loop-k-test+then-c}
 
-pub returns-then-b-eq48 : goal.returns-then-b-eq48
-returns-then-b-eq48 c = zero_found c.args.t.now c.args.i c.args.bound (sym c.peek-b.ensures ∙ c.if-b-eq48.true)
+pub returns-then-b-eq-LONE_DIGIT : goal.returns-then-b-eq-LONE_DIGIT
+returns-then-b-eq-LONE_DIGIT c = zero_found c.args.t.now c.args.i c.args.bound (sym c.peek-b.ensures ∙ c.if-b-eq-LONE_DIGIT.true)
 
 pub returns-then-bound-v : goal.returns-then-bound-v
 returns-then-bound-v c =
     let r = in_digits c.usize_of_u8-c.result c.if-c.false in
-    over_found c.loop-k.invariant (λ e. c.if-b-eq48.false (c.peek-b.ensures ∙ e)) c.loop-k-test.true c.usize_of_u8-c.ensures.0 r.0 r.1 c.if-bound-v.true
+    over_found c.loop-k.invariant (λ e. c.if-b-eq-LONE_DIGIT.false (c.peek-b.ensures ∙ e)) c.loop-k-test.true c.usize_of_u8-c.ensures.0 r.0 r.1 c.if-bound-v.true
 
 pub loop-k-preserved : goal.loop-k-preserved
 loop-k-preserved c =
     let r = in_digits c.usize_of_u8-c.result c.if-c.false in
-    digits_on c.loop-k.invariant (λ e. c.if-b-eq48.false (c.peek-b.ensures ∙ e)) c.loop-k-test.true c.usize_of_u8-c.ensures.0 r.0 r.1 c.if-bound-v.false
+    digits_on c.loop-k.invariant (λ e. c.if-b-eq-LONE_DIGIT.false (c.peek-b.ensures ∙ e)) c.loop-k-test.true c.usize_of_u8-c.ensures.0 r.0 r.1 c.if-bound-v.false
 
 pub returns-then-k-i : goal.returns-then-k-i
 returns-then-k-i c =
@@ -25,7 +25,7 @@ returns-then-k-i c =
       | else-loop-k-test w ↦ ends_at_end c.args.t.now c.loop-k.k w.loop-k-test.false
       | then-loop-k-test+then-c w ↦ ends_at_byte c.args.t.now c.loop-k.k w.loop-k-test.true w.usize_of_u8-c.ensures.0 w.if-c.true
     ] in
-    none_found c.loop-k.invariant (λ e. c.if-b-eq48.false (c.peek-b.ensures ∙ e)) ends c.if-k-i.true
+    none_found c.loop-k.invariant (λ e. c.if-b-eq-LONE_DIGIT.false (c.peek-b.ensures ∙ e)) ends c.if-k-i.true
 
 pub returns : goal.returns
 returns c =
@@ -34,4 +34,4 @@ returns c =
       | else-loop-k-test w ↦ ends_at_end c.args.t.now c.loop-k.k w.loop-k-test.false
       | then-loop-k-test+then-c w ↦ ends_at_byte c.args.t.now c.loop-k.k w.loop-k-test.true w.usize_of_u8-c.ensures.0 w.if-c.true
     ] in
-    all_found c.loop-k.invariant (λ e. c.if-b-eq48.false (c.peek-b.ensures ∙ e)) ends c.if-k-i.false
+    all_found c.loop-k.invariant (λ e. c.if-b-eq-LONE_DIGIT.false (c.peek-b.ensures ∙ e)) ends c.if-k-i.false
