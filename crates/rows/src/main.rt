@@ -72,8 +72,8 @@ fn main(rt: HostRuntime) {
     let mut room = [0u8; 70000];
     let mut store = [0i32; 1000];
     let mut buf = io::large_buffer();
-    // no input has as many records as this
     let mut from = rt.reader();
+    // no input has as many records as this
     let mut left: u64 = 18446744073709551615;
     while 0 < left {
         if !one_record(&mut from, &mut room, &mut store, &mut buf) {
