@@ -22,7 +22,7 @@ sh tools/build.sh rows trace store show >&2
 if ! $RUN "$program" </dev/null >/dev/null 2>&1; then
     cat >&2 <<END
 $program is compiled for x86-64 Linux and can't be run here. Set RUN to a command that runs such programs: it is put before the program.
-The kit has one for Arm: RUN="\$K/bin/qemu-x86_64 \$K/lib/ld-linux-x86-64.so.2 --library-path \$K/lib", where K is on/aarch64/toolchain in the kit's folder.
+An emulator for one machine's user programs, as qemu-x86_64, will do.
 END
     exit 2
 fi

@@ -9,8 +9,8 @@
  * is not null. What is lent to a call does not overlap, and until the call returns nobody else writes it, or reads what the call may write.
  *
  * The functions keep no state and take no memory but stack: any number of threads may call them, each with lent memory of its own. The check and the run
- * need at most 32 KB of stack (KB: 1,024 bytes), the text and rigvanesh_write 416 KB and rigvanesh_read 496 KB (measured on the compiled archives at the
- * deepest tree that a routine can hold, for the text at 2,048 levels and counted from there; it is not proved). A run makes as many steps as its fuel allows and can't be interrupted.
+ * need at most 32 KB of stack (KB: 1,024 bytes), the text and rigvanesh_write 416 KB and rigvanesh_read 496 KB (measured, on the archives that
+ * an older kit compiled, at the deepest tree that a routine can hold, for the text at 2,048 levels and counted from there; today's need less; it is not proved). A run makes as many steps as its fuel allows and can't be interrupted.
  */
 #ifndef RIGVANESH_H
 #define RIGVANESH_H

@@ -7,7 +7,7 @@
 ghost use Rattle.std.specs.Prelude.{◌≤◌, length};
 
 use record::Head;
-use std::io::{Input, Read};
+use std::io::Read;
 
 mod checks;
 mod lent;
@@ -72,7 +72,7 @@ fn main(rt: HostRuntime) {
     let mut room = [0u8; 70000];
     let mut store = [0i32; 1000];
     let mut buf = io::large_buffer();
-    let mut from = rt.reader();
+    let mut from = rt.stdin();
     // no input has as many records as this
     let mut left: u64 = 18446744073709551615;
     while 0 < left {

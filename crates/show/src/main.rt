@@ -5,7 +5,6 @@
 
 #![tactic(auto)]
 
-use std::io::Input;
 use writer::Written;
 
 // The descriptor of standard output.
@@ -36,7 +35,7 @@ fn main(rt: HostRuntime) {
         return;
     }
     let mut room = [0u8; 65538];
-    let mut from = rt.reader();
+    let mut from = rt.stdin();
     let got = input::fill(&mut from, &mut room);
     if got.failed {
         io::write_all(STDERR_FILENO, b"show: the input could not be read\n");

@@ -14,7 +14,7 @@ ghost use Rattle.store.specs.Limits.{Within, InTail};
 use arguments::Number;
 use reader::Taken;
 use std::env::Env;
-use std::io::{Input, Read};
+use std::io::Read;
 
 // The descriptor of standard output.
 const STDOUT_FILENO: i32 = 1;
@@ -173,7 +173,7 @@ fn main(rt: HostRuntime) {
             );
         }
         Asked::Row(m, bytes) => {
-            let mut from = rt.reader();
+            let mut from = rt.stdin();
             store(&mut from, m, &tail[..bytes])
         }
     }

@@ -4,14 +4,12 @@
 
 #![tactic(auto)]
 
-use std::io::Input;
-
 // The descriptor of standard error.
 const STDERR_FILENO: i32 = 2;
 
 fn main(rt: HostRuntime) {
     let mut room = [0u8; 33035];
-    let mut from = rt.reader();
+    let mut from = rt.stdin();
     let got = input::fill(&mut from, &mut room);
     if got.failed {
         io::write_all(STDERR_FILENO, b"trace: the input could not be read\n");

@@ -16,27 +16,27 @@ use Rattle.routine.specs.declared.Sizes.{Sizes}
 use Rattle.routine.proofs.Standing.{root_size}
 use Rattle.writer.specs.Own.{own_length}
 
-abbrev pub field_own : List ℕ → ℕ → ℕ
-field_own b i = own_length (form_of (kind b i)) (arg b i) (integer_of b i)
+abbrev pub own_at : List ℕ → ℕ → ℕ
+own_at b i = own_length (form_of (kind b i)) (arg b i) (integer_of b i)
 
 -- the sum over the nodes below i
 abbrev pub length_to : List ℕ → ℕ → ℕ
 length_to b zero = 0
-length_to b (suc i) = length_to b i + field_own b i
+length_to b (suc i) = length_to b i + own_at b i
 
 module _ (b : List ℕ) where
-  pub length_more : (i : ℕ) → length_to b (i + 1) ≡ length_to b i + field_own b i
+  pub length_more : (i : ℕ) → length_to b (i + 1) ≡ length_to b i + own_at b i
   length_more i = rw (add-one i)
 
   -- node i, which adds w, behind the nodes below j
-  turn : (i w j k : ℕ) → field_own b i ≡ w → j ≡ i → k ≡ i + 1 → length_to b k ≡ length_to b j + w
+  turn : (i w j k : ℕ) → own_at b i ≡ w → j ≡ i → k ≡ i + 1 → length_to b k ≡ length_to b j + w
   turn i w j k own p q = rw (q, p, ← own) (length_more i)
 
   -- the nodes of e, from node f on
   abbrev Adds : ℕ → Expr → Type 0
   Adds f e = length_to b (f + size e) ≡ length_to b f + length (text e)
 
-  two : (i w f : ℕ) (e₁ e₂ : Expr) → field_own b i ≡ w → f + (1 + size e₁ + size e₂) ≡ i + 1 → Adds f e₁ → Adds (f + size e₁) e₂
+  two : (i w f : ℕ) (e₁ e₂ : Expr) → own_at b i ≡ w → f + (1 + size e₁ + size e₂) ≡ i + 1 → Adds f e₁ → Adds (f + size e₁) e₂
       → length_to b (f + (1 + size e₁ + size e₂)) ≡ length_to b f + (w + length (text e₁) + length (text e₂))
   two i w f e₁ e₂ own h a₁ a₂ = omega (arith, turn i w (f + size e₁ + size e₂) (f + (1 + size e₁ + size e₂)) own (omega arith) h)
 
