@@ -5,20 +5,15 @@ use mathlib.Core.Path.{◌≡◌, refl, sym, ap, ◌∙◌}
 use mathlib.Core.List.Memᴰ
 use mathlib.Core.List.{List, [], ◌∷◌}
 use lib.IntN.{ℤ, pos, negsuc}
-use lib.ListN.{length, take, drop, get_or}
-use lib.Seq.{sets-eq, take-length, take-append_seam}
-use borrow.Author.Tests.{lt-ltb, le-ltb}
+use lib.ListN.{length, take}
+use lib.Seq.{sets-eq, take-append_seam}
 use Rattle.l1.specs.Range.{InRange}
 use Rattle.l1.specs.Text.{decimal, integer}
 use Rattle.l1.proofs.Decimal.{decimal_digits}
 use Rattle.l1.proofs.Range.{in_range_mag}
-use Rattle.stored.specs.Bytes.{signed}
 use Rattle.text_form.specs.Digits.{value_from}
 use Rattle.text_form.proofs.Notation.{value_decimal}
 use Rattle.node_text.specs.Put.{Put}
-use Rattle.arguments.specs.Says.{NaturalSays, IntegerSays}
-use Rattle.arguments.specs.declared.Number.{Number}
-use Rattle.arguments.specs.declared.Number.TheVariants.{Not, Is}
 
 pub one_number : (m n : ℕ) → decimal m ≡ decimal n → m ≡ n
 one_number m n e = sym (value_decimal m) ∙ ap (value_from 0) e ∙ value_decimal n
@@ -36,38 +31,11 @@ module _ {s : List ℕ} where
   pub no_text : (m : ℕ) → m ≡ value_from 0 s → ¬ (s ≡ decimal m) → (n : ℕ) → ¬ (s ≡ decimal n)
   no_text m q none n e = let same : m ≡ n = q ∙ ap (value_from 0) e ∙ value_decimal n in none (e ∙ ap decimal (sym same))
 
-  pub none_positive : ¬ (get_or s 0 0 ≡ 45) → ((n : ℕ) → n ≤ 2147483647 → ¬ (s ≡ decimal n)) → (z : ℤ) → InRange z → ¬ (s ≡ integer z)
-  none_positive first none (pos n) r e = none n (omega (arith, in_range_mag r)) e
-  none_positive first none (negsuc n) r e = first (ap (λ (t : List ℕ). get_or t 0 0) e)
-
   pub none_negative : ((n : ℕ) → 0 < n → n ≤ 2147483648 → ¬ (s ≡ decimal n)) → (z : ℤ) → InRange z → ¬ (45 ∷ s ≡ integer z)
   none_negative none (pos n) r e = omega (arith, ((rw (sym e) at (decimal_digits n)).each 45 (Memᴰ.head refl)).not_below)
   none_negative none (negsuc n) r e = let q : s ≡ decimal (suc n) = cc in none (suc n) (omega arith) (omega (arith, in_range_mag r)) q
-
--- the numbers that are told, by their two's complement
-pub signed_positive : (n : ℕ) → n ≤ 2147483647 → integer (signed n) ≡ decimal n
-unfolding signed
-signed_positive n l = rw (lt-ltb n 2147483648 (omega arith))
-
-pub signed_negative : (n : ℕ) → 0 < n → n ≤ 2147483648 → integer (signed (4294967296 - n)) ≡ 45 ∷ decimal n
-unfolding signed
-signed_negative n p l =
-    let q : suc (4294967295 - (4294967296 - n)) ≡ n = omega arith in
-    rw (le-ltb (4294967296 - n) 2147483648 (omega arith)) (ap (λ (k : ℕ). 45 ∷ decimal k) q)
-
-pub positive_told : (s : List ℕ) (r : Number) → ¬ (get_or s 0 0 ≡ 45) → NaturalSays s 2147483647 r → IntegerSays s r
-positive_told s Not f h = none_positive f h
-positive_told s (Is n) f (e, l) = (e ∙ sym (signed_positive n l), omega arith)
-
-pub negative_told : {s : List ℕ} {n : ℕ} → 0 < n → NaturalSays s 2147483648 (Is n) → IntegerSays (45 ∷ s) (Is (4294967296 - n))
-negative_told {s} {n} p (e, l) = (ap (λ (t : List ℕ). 45 ∷ t) e ∙ sym (signed_negative n p l), omega arith)
 
 -- what was put at the start of a buffer
 pub put_start : {b t c : List ℕ} {r : ℕ} → Put b 0 t c r → length t ≤ length b → take r c ≡ t
 put_start {b} {t} w l =
     let z : 0 + length t ≡ length t = omega arith in rw (w.next, w.held, sets-eq t b 0 (omega arith), z) (take-append_seam t _)
-
--- a word that begins with `-`
-pub minus_first : (s : List ℕ) → get_or s 0 0 ≡ 45 → 45 ∷ take (length s - 1) (drop 1 s) ≡ s
-minus_first [] e = absurd (omega arith)
-minus_first (c ∷ t) e = let q : length (c ∷ t) - 1 ≡ length t = omega arith in rw (q, take-length t) (ap (λ (x : ℕ). x ∷ t) (sym e))

@@ -21,9 +21,8 @@ use Rattle.stored.specs.Layout.{kind, arg, TreeAt, at_int, at_bool, at_op, at_if
 use Rattle.stored.specs.Reader.{tree_at}
 use Rattle.stored.specs.Refusals.{locations, count, env}
 use Rattle.routine.specs.Forms.{form_of, kind_of, node_of}
-use Rattle.routine.specs.Open.{IsOpen, root_of}
+use Rattle.routine.specs.Open.{Opened, root_of}
 use Rattle.routine.specs.declared.Node.{Node}
-use Rattle.routine.specs.declared.Sizes.{Sizes}
 use Rattle.checker.specs.Rules.{work_by, uses_by}
 use Rattle.checker.proofs.Tables.{kind_for, named_word}
 use Rattle.routine.proofs.Standing.{is_headed, root_size, nodes_stand, root_nodes}
@@ -74,31 +73,28 @@ work_to b i = work_of (take i (nodes (root_of b)))
 abbrev pub word_to : Use → List ℕ → ℕ → ℕ
 word_to u b i = word (uses_of u (take i (nodes (root_of b))))
 
-module _ {b : List ℕ} {z : Sizes} (o : IsOpen b z) where
+module _ {b : List ℕ} (o : Opened b) where
   -- one node more
-  module _ {i : ℕ} (l : i < z.nodes) {d : Node} (q : d ≡ node_of b i) where
-    inside : i < count b
-    inside = omega (arith, o.sizes.0)
-
+  module _ {i : ℕ} (l : i < count b) {d : Node} (q : d ≡ node_of b i) where
     pub arg_small : fault (env b) (tree_at b i) ≡ 0 → d.arg < 64
-    arg_small c = rw q (clear_arg (is_headed o.opens o.holds).few_locations (nodes_stand o.opens o.holds i inside) c)
+    arg_small c = rw q (clear_arg (is_headed o.opens o.holds).few_locations (nodes_stand o.opens o.holds i l) c)
 
     pub work_turn : {w v : ℕ} → w ≡ work_to b i → v ≡ work_by d.form → w + v ≡ work_to b (i + 1)
-    work_turn p r = rw (p, r, q, work_more (root_nodes o.opens o.holds i inside), (adds (nodes_stand o.opens o.holds i inside)).0)
+    work_turn p r = rw (p, r, q, work_more (root_nodes o.opens o.holds i l), (adds (nodes_stand o.opens o.holds i l)).0)
 
     word_more : (u : Use) {w v : ℕ} → w ≡ word_to u b i → v ≡ word (uses_by u d.form d.arg) → bit_or w v ≡ word_to u b (i + 1)
     word_more u p r =
-        let n = root_nodes o.opens o.holds i inside in
-        rw (p, r, q, uses_more u n, (adds (nodes_stand o.opens o.holds i inside)).1 u, word_append)
+        let n = root_nodes o.opens o.holds i l in
+        rw (p, r, q, uses_more u n, (adds (nodes_stand o.opens o.holds i l)).1 u, word_append)
 
     pub word_turn : (u : Use) (w : List ℕ) {k v : ℕ} → length w ≡ 16 → get_or w (kind_for u) 0 ≡ word_to u b i → k ≡ kind_of d.form → v ≡ 2 ^ d.arg
         → get_or (set w k (bit_or (get_or w k 0) v)) (kind_for u) 0 ≡ word_to u b (i + 1)
     word_turn u w long p k v = rw (k, v) (named_word d.arg w (omega arith) u d.form ∙ word_more u p refl)
 
   -- after the last node
-  module _ {i : ℕ} (l : z.nodes ≤ i) where
+  module _ {i : ℕ} (l : count b ≤ i) where
     all_taken : take i (nodes (root_of b)) ≡ nodes (root_of b)
-    all_taken = take_all i (nodes (root_of b)) (rw nodes_length (omega (arith, root_size o.opens o.holds, o.sizes.0)))
+    all_taken = take_all i (nodes (root_of b)) (rw nodes_length (omega (arith, root_size o.opens o.holds)))
 
     pub work_all : work_to b i ≡ working (root_of b)
     work_all = rw all_taken (working_sum (root_of b))

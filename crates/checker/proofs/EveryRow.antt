@@ -13,19 +13,19 @@ use Rattle.l1.specs.Typing.{◌⊢◌∶◌}
 use Rattle.l1.specs.Refused.{Verdict, Judged, has_type, has_none}
 use Rattle.l1.proofs.Verdict.{verdict_judged}
 use Rattle.stored.specs.Stages.{Refusal, Passes, First}
-use Rattle.stored.specs.Refusals.{locations, count, env, admission}
-use Rattle.stored.specs.Answers.{Opened, Opening, open_refuses, open_opens}
+use Rattle.stored.specs.Refusals.{locations, env, admission}
+use Rattle.stored.specs.Answers as S
+use Rattle.stored.specs.Answers.{Opening, open_refuses, open_opens}
 use Rattle.stored.specs.Answers.{Checked, Checks, check_refuses, check_tells, Ran, ran, Runs, run_refuses}
-use Rattle.stored.proofs.Admission.{opening_refused, lent_refused, admitted}
+use Rattle.stored.proofs.Admission.{opening_refused, type_refused, lent_refused, admitted}
 use Rattle.stored.proofs.RunAnswers.{run_exists}
-use Rattle.routine.specs.Open.{root_of, IsOpen, Runnable}
-use Rattle.routine.specs.declared.Sizes.{Sizes}
+use Rattle.routine.specs.Open.{root_of, sizes_of, Opened, Runnable}
 use Rattle.routine.proofs.Opening.{opening_opens}
 use Rattle.opener.proofs.EveryOpening.{every_opening}
 use Rattle.checker.specs.declared.admission.Lent.{Lent}
 use Rattle.checker.specs.declared.admission.Lent.TheVariants.{Nothing, Store}
 use Rattle.checker.specs.Admits.{lent_of, suffices_of}
-use Rattle.checker.proofs.Admitting.{lent_passes, lent_lacks, faulty}
+use Rattle.checker.proofs.Admitting.{lent_passes, lent_lacks}
 
 module _ (b : List ℕ) (lent : Lent) where
   -- nothing is refused: the routine may be run, and what is lent suffices
@@ -35,7 +35,7 @@ module _ (b : List ℕ) (lent : Lent) where
   abbrev pub Answered : Type 0
   Answered = ((r : Refusal) × First (admission b (lent_of b lent)) r) ⊎ Admitted
 
-  module _ {z : Sizes} (o : IsOpen b z) where
+  module _ (o : Opened b) where
     by_lent : {T : Ty} → env b ⊢ root_of b ∶ T → (t : Bool) → suffices_of lent (locations b) ≡ t → Answered
     by_lent {T} x true e =
         inr (
@@ -47,12 +47,12 @@ module _ (b : List ℕ) (lent : Lent) where
 
     by_type : {v : Verdict} → Judged (env b) (root_of b) v → Answered
     by_type (has_type x) = by_lent x (suffices_of lent (locations b)) refl
-    by_type (has_none r) = inl (_, faulty o lent r)
+    by_type (has_none r) = inl (_, type_refused o.opens o.holds (lent_of b lent) r)
 
-  by_opening : {a : Opened} → Opening b a → Answered
+  by_opening : {a : S.Opened} → Opening b a → Answered
   by_opening (open_refuses f) = inl (_, opening_refused {b = b} (lent_of b lent) (open_refuses f))
   by_opening (open_opens ok h) =
-      by_type (opening_opens {z = record { nodes = count b; locations = locations b }} (open_opens ok h)) (verdict_judged (env b) (root_of b))
+      by_type (opening_opens {z = sizes_of b} (open_opens ok h)) (verdict_judged (env b) (root_of b))
 
   pub every_row : Answered
   every_row = by_opening (every_opening b).1

@@ -2,7 +2,8 @@
 use Prim.Native.Nat.{ℕ, ◌^◌, ◌<◌}
 use native.Mathlib.Omega.{arith}
 use mathlib.Core.Path.{◌≡◌, refl, sym, ap, ◌∙◌}
-use mathlib.Core.Bool.{Bool, true, false, not, ◌&&◌, ◌||◌, cond}
+use mathlib.Core.Bool as B
+use mathlib.Core.Bool.{true, false, not, ◌&&◌, ◌||◌, cond}
 use mathlib.Core.List.{List, [], ◌∷◌}
 use lib.Bits.{bit_or, or_zero_r}
 use lib.Dec.{eqb, ltb}
@@ -12,9 +13,17 @@ use Rattle.l1.specs.Sets.{Use, reading, writing, word}
 use Rattle.routine.specs.declared.Form.{Form}
 use Rattle.routine.specs.declared.Form.TheVariants.{Integer, Boolean, Plus, Geq, If, Assign, Deref, Skip, Seq, While, Unknown}
 use Rattle.routine.specs.Forms.{kind_of, digit_of}
-use Rattle.checker.specs.Rules.{fault_by, type_by, work_by, uses_by}
+use denote.Enum.Bare.{sameb}
+use Rattle.checker.specs.contracts.Ty.{the_type}
+use Rattle.checker.specs.declared.Ty.{Ty}
+use Rattle.checker.specs.declared.Ty.TheVariants.{Int, Bool, Unit}
+use Rattle.checker.specs.Rules.{no_of, fault_by, type_by, work_by, uses_by}
 
-pub type_given : (f : Form) (q : ℕ) → cond (eqb (digit_of 0x22320231010 f) 3) q (digit_of 0x22320231010 f) ≡ type_by f q
+-- the type that `type_of` picks by a digit, q being the second child's
+abbrev pub picked : ℕ → Ty → Ty
+picked g q = cond (eqb g 3) q (cond (eqb g 0) Int (cond (eqb g 1) Bool Unit))
+
+pub type_given : (f : Form) (q : Ty) → no_of (picked (digit_of 0x22320231010 f) q) ≡ type_by f (no_of q)
 unfolding digit_of
 type_given Integer q = refl
 type_given Boolean q = refl
@@ -90,31 +99,31 @@ module _ (l : ℕ) (w : List ℕ) (long : 10 < length w) where
   named_word writing Unknown = stays writing Unknown (λ e. absurd (omega arith))
 
 -- the tests of `holds`, joined as it joins them
-abbrev pub all_hold : Form → ℕ → ℕ → ℕ → ℕ → ℕ → Bool
+abbrev pub all_hold : Form → ℕ → ℕ → ℕ → ℕ → ℕ → B.Bool
 all_hold f m l p q r =
     (eqb (digit_of 0x31233010033 f) 3 || eqb p (digit_of 0x31233010033 f)) && (eqb (digit_of 0x32333330033 f) 3 || eqb q (digit_of 0x32333330033 f))
     && (not (eqb (digit_of 0x00002210000 f) 1) || eqb r q) && (not (eqb (digit_of 0x00002210000 f) 2) || ltb l m)
 
 -- one test after another, by the number that each gives where it fails
-one : (a : Bool) → a && true && true && true ≡ eqb (cond a 0 21) 0
+one : (a : B.Bool) → a && true && true && true ≡ eqb (cond a 0 21) 0
 one true = refl
 one false = refl
 
-two : (a b : Bool) → a && b && true && true ≡ eqb (cond a (cond b 0 22) 21) 0
+two : (a b : B.Bool) → a && b && true && true ≡ eqb (cond a (cond b 0 22) 21) 0
 two true true = refl
 two true false = refl
 two false b = refl
 
-branches : (a b : Bool) → a && true && b && true ≡ eqb (cond a (cond b 0 23) 21) 0
+branches : (a b : B.Bool) → a && true && b && true ≡ eqb (cond a (cond b 0 23) 21) 0
 branches true true = refl
 branches true false = refl
 branches false b = refl
 
-declared : (a : Bool) → a ≡ eqb (cond a 0 20) 0
+declared : (a : B.Bool) → a ≡ eqb (cond a 0 20) 0
 declared true = refl
 declared false = refl
 
-assigned : (a b : Bool) → b && true && true && a ≡ eqb (cond a (cond b 0 21) 20) 0
+assigned : (a b : B.Bool) → b && true && true && a ≡ eqb (cond a (cond b 0 21) 20) 0
 assigned true true = refl
 assigned true false = refl
 assigned false true = refl
@@ -133,3 +142,15 @@ rule_holds Skip m l p q r = refl
 rule_holds Seq m l p q r = one (eqb p 2)
 rule_holds While m l p q r = two (eqb p 1) (eqb q 2)
 rule_holds Unknown m l p q r = refl
+
+-- types are the same where their numbers are
+pub same_by_number : (p q : Ty) → sameb the_type p q ≡ eqb (no_of p) (no_of q)
+same_by_number Int Int = refl
+same_by_number Int Bool = refl
+same_by_number Int Unit = refl
+same_by_number Bool Int = refl
+same_by_number Bool Bool = refl
+same_by_number Bool Unit = refl
+same_by_number Unit Int = refl
+same_by_number Unit Bool = refl
+same_by_number Unit Unit = refl

@@ -3,39 +3,35 @@ use Prim.Native.Nat.{ℕ, ◌+◌, ◌-◌, ◌≤◌, ◌<◌}
 use native.Mathlib.Omega.{arith}
 use mathlib.Core.Path.{◌≡◌, refl, sym, ◌∙◌, ap}
 use mathlib.Core.List.{List}
+use Rattle.std.specs.Prelude.{Some, None}
 use lib.ListN.{length, get_or, set}
 use lib.Seq.{get_or-set_same, get_or-set_other}
 use borrow.Author.Count.{below_more}
 use Rattle.l1.specs.Syntax.{plus, geq, Expr}
-use Rattle.l1.specs.Refused.{nodes, Refused}
+use Rattle.l1.specs.Refused.{nodes}
 use Rattle.l1.specs.Judge.{rule_type, type_no, fault}
 use Rattle.l1.proofs.Nodes.{nth_unique}
-use Rattle.l1.proofs.Faults.{Clear}
+use Rattle.l1.proofs.Faults.{Clear, type_no_unique}
 use Rattle.l1.proofs.Verdict.{fault_refused, clear_typed}
 use Rattle.stored.specs.Layout.{TreeAt, at_int, at_bool, at_op, at_if, at_assign, at_deref, at_skip, at_seq, at_while}
 use Rattle.stored.specs.Reader.{tree_at}
 use Rattle.stored.specs.Refusals.{locations, count, env}
 use Rattle.stored.proofs.Reader.{read_tree_lem}
 use Rattle.routine.specs.Forms.{node_of}
-use Rattle.routine.specs.Masks.{Covers, under}
-use Rattle.routine.specs.Open.{root_of, IsOpen}
+use Rattle.routine.specs.Open.{root_of, Opened}
 use Rattle.routine.specs.declared.Node.{Node}
-use Rattle.routine.specs.declared.Sizes.{Sizes}
-use Rattle.checker.specs.Rules.{fault_by, type_by}
-use Rattle.checker.specs.Says.{HasType}
+use Rattle.routine.specs.declared.Refusal.{Refusal}
+use Rattle.opener.specs.Tables.{Covers}
+use Rattle.checker.specs.Rules.{type_of, no_of, seen, found_fault, found_type}
+use Rattle.checker.specs.Says.{FaultSays, HasType, Faulty}
+use Rattle.checker.specs.declared.Ty as Code
+use Rattle.checker.specs.declared.Ty.TheVariants.{Int}
 use Rattle.routine.proofs.Standing.{is_headed, root_size, nodes_stand, root_nodes}
 
 -- what is known of a node that was passed
-pub record Passed (b types : List ℕ) (j : ℕ) : Type 0 where
+pub record Passed (b : List ℕ) (types : List Code.Ty) (j : ℕ) : Type 0 where
   pub clear : fault (env b) (tree_at b j) ≡ 0
-  pub typed : get_or types j 0 ≡ type_no (rule_type (tree_at b j))
-
--- what the code finds of a node, s telling what the table has
-abbrev pub found_fault : ℕ → (ℕ → ℕ) → Node → ℕ
-found_fault m s d = fault_by d.form m d.arg (s d.first) (s d.second) (s d.third)
-
-abbrev pub found_type : (ℕ → ℕ) → Node → ℕ
-found_type s d = type_by d.form (s d.second)
+  pub typed : type_of (get_or types j Int) ≡ rule_type (tree_at b j)
 
 -- .. is what the rules say of the tree e
 abbrev Right : List ℕ → (ℕ → ℕ) → ℕ → Expr → Type 0
@@ -68,34 +64,43 @@ module _ (b : List ℕ) (s : ℕ → ℕ) where
   turn past (at_while n p q t₁ t₂) =
       rw (n.its_kind, n.its_first, n.its_second, child past (omega arith) t₁, child past (omega arith) t₂) (refl, refl)
 
-module _ {b types : List ℕ} {z : Sizes} {i : ℕ} (mask : ℕ) (o : IsOpen b z) (low : Covers mask z.nodes)
+module _ {b : List ℕ} {types : List Code.Ty} {i : ℕ} (o : Opened b) (low : Covers (length types) (count b))
     (past : (j : ℕ) → j < i → Passed b types j) where
   clear_below : (k : ℕ) → k ≤ i → k ≤ count b → Clear (env b) (nodes (root_of b)) k
   clear_below k h h' j d l n = rw (nth_unique n (root_nodes o.opens o.holds j (omega arith))) (past j (omega arith)).clear
 
-  -- a turn, of which c and t are what it finds
-  module _ (l : i < z.nodes) {d : Node} (read : d ≡ node_of b i) {c : ℕ} (found : c ≡ found_fault z.locations (under mask types) d) where
-    right : Right b (under mask types) i (tree_at b i)
-    right = turn b (under mask types) (λ j k. rw (low j (omega arith)) (past j k).typed) (nodes_stand o.opens o.holds i (omega (arith, o.sizes)))
+  -- a turn
+  module _ (l : i < count b) {d : Node} (read : d ≡ node_of b i) {m : ℕ} (declared : m ≡ locations b) where
+    right : Right b (seen types) i (tree_at b i)
+    right = turn b (seen types) (λ j k. rw (low j (omega arith)) (ap type_no (past j k).typed)) (nodes_stand o.opens o.holds i l)
 
-    pub its_fault : c ≡ fault (env b) (tree_at b i)
-    its_fault = found ∙ rw (read, o.sizes.1) right.0
+    its_fault : found_fault m (seen types) d ≡ fault (env b) (tree_at b i)
+    its_fault = rw (declared, read) right.0
 
     -- with a fault: the refusal
-    pub faulty : ¬ (c ≡ 0) → Refused (env b) (root_of b) c i
-    faulty h =
-        let q = its_fault in let l' : i < count b = omega (arith, o.sizes) in
-        rw q (fault_refused (root_of b) (root_nodes o.opens o.holds i l') (omega arith) (clear_below i (omega arith) (omega arith)))
+    pub faulty : (r : Refusal) → FaultSays (found_fault m (seen types) d) i (Some r) → Faulty b r
+    faulty r (some, is) =
+        let q = its_fault in (
+          _,
+          i,
+          fault_refused (root_of b) (root_nodes o.opens o.holds i l) (omega arith) (clear_below i (omega arith) (omega arith)),
+          rw q at is,
+        )
 
     -- without: the node is passed with its type
-    pub passed : c ≡ 0 → {t : ℕ} → t ≡ found_type (under mask types) d → i < length types → (j : ℕ) → j < i + 1 → Passed b (set types i t) j
-    passed h {t} q room =
-        below_more _ _
-        (λ j m. record { clear = (past j m).clear; typed = get_or-set_other types i j t 0 (omega arith) ∙ (past j m).typed })
-        (record { clear = sym its_fault ∙ h; typed = get_or-set_same types i t 0 room ∙ q ∙ rw read right.1 })
+    pub clear : FaultSays (found_fault m (seen types) d) i None → fault (env b) (tree_at b i) ≡ 0
+    clear none = sym its_fault ∙ none
 
-  -- all nodes are passed: the root has the type that the table's last entry tells
-  pub all_passed : z.nodes ≤ i → HasType b × (get_or types (z.nodes - 1) 0 ≡ type_no (rule_type (root_of b)))
-  all_passed h =
-      let p : z.nodes ≡ count b = o.sizes.0 in let s = root_size o.opens o.holds in let hd = is_headed o.opens o.holds in
-      (clear_typed (root_of b) (clear_below _ (omega arith) (omega arith)), rw p (past (count b - 1) (omega arith)).typed)
+    pub passed : FaultSays (found_fault m (seen types) d) i None → (t : Code.Ty) → no_of t ≡ found_type (seen types) d → i < length types
+        → (j : ℕ) → j < i + 1 → Passed b (set types i t) j
+    passed none t q room =
+        below_more _ _
+        (λ j m. record { clear = (past j m).clear; typed = ap type_of (get_or-set_other types i j t Int (omega arith)) ∙ (past j m).typed })
+        (record { clear = clear none; typed = ap type_of (get_or-set_same types i t Int room) ∙ type_no_unique (q ∙ rw read right.1) })
+
+  -- all n nodes are passed: the root has the type that the table's last entry tells
+  pub all_passed : {n : ℕ} → n ≡ count b → n ≤ i → HasType b × (type_of (get_or types (n - 1) Int) ≡ rule_type (root_of b))
+  all_passed all h =
+      let s = root_size o.opens o.holds in
+      let some = (is_headed o.opens o.holds).some_nodes in
+      (clear_typed (root_of b) (clear_below _ (omega arith) (omega arith)), rw all (past (count b - 1) (omega arith)).typed)

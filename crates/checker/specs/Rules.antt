@@ -6,6 +6,8 @@ use Rattle.l1.specs.Judge.{type_no}
 use Rattle.l1.specs.Sets.{Use, uses_of_deref, uses_of_assign}
 use Rattle.routine.specs.declared.Form.{Form}
 use Rattle.routine.specs.declared.Form.TheVariants.{Integer, Boolean, Plus, Geq, If, Assign, Deref, Skip, Seq, While, Unknown}
+use Rattle.routine.specs.declared.Node.{Node}
+use Rattle.opener.specs.Tables.{under}
 use Rattle.checker.specs.declared.Ty as Code
 use Rattle.checker.specs.declared.Ty.TheVariants as V'
 
@@ -70,3 +72,18 @@ abbrev pub type_of : Code.Ty → Ty
 type_of V'.Int = ty_int
 type_of V'.Bool = ty_bool
 type_of V'.Unit = ty_unit
+
+-- and its number
+abbrev pub no_of : Code.Ty → ℕ
+no_of t = type_no (type_of t)
+
+-- the number of the type that the table has of child j
+abbrev pub seen : List Code.Ty → ℕ → ℕ
+seen types j = no_of (under V'.Int types j)
+
+-- what is found of a node, s telling the numbers of its children's types
+abbrev pub found_fault : ℕ → (ℕ → ℕ) → Node → ℕ
+found_fault m s d = fault_by d.form m d.arg (s d.first) (s d.second) (s d.third)
+
+abbrev pub found_type : (ℕ → ℕ) → Node → ℕ
+found_type s d = type_by d.form (s d.second)

@@ -3,16 +3,18 @@ use Prim.Native.Nat.{ℕ, zero, suc, ◌+◌, ◌≤◌, ◌<◌}
 use native.Mathlib.Omega.{arith}
 use native.Mathlib.Decide.{dec_lt}
 use native.Mathlib.Numerals.{add-one}
-use mathlib.Core.Path.{◌≡◌, refl, ◌∙◌}
-use mathlib.Core.Bool.{Bool, true, false, cond}
+use mathlib.Core.Path.{◌≡◌, refl, sym, ◌∙◌}
+use mathlib.Core.Bool.{Bool, true, false, cond, not, true≢false}
 use mathlib.Core.List.{List, [], ◌∷◌}
 use mathlib.Core.Option.{Option, none, some}
-use borrow.Author.Tests.{eq-eqb, ne_eqb}
+use borrow.Author.Tests.{eq-eqb, eqb-true, ne_eqb}
 use lib.Dec.{eqb}
 use lib.ListN.{length, get_or, drop, drop_of_length-le, get_or-eq_default}
 use lib.Seq.{drop-cons, drop-drop, get_or-drop}
-use Rattle.text_form.specs.Parser.{on, behind}
-use Rattle.descent.specs.Found.{Found, SpelledAs}
+use Rattle.std.specs.Prelude.{Some, None, nat_eq, unwrap_or}
+use Rattle.std.specs.Prelude as S
+use Rattle.std.specs.Option.{option_eq}
+use Rattle.text_form.specs.Parser.{behind}
 
 pub in_range : (t : List ℕ) (i : ℕ) → i < length t → get_or t i 0 ≡ get_or t i 256
 in_range [] i h = absurd (omega arith)
@@ -38,9 +40,6 @@ behind_one t i = drop-drop 1 i t
 pub byte_there : (t : List ℕ) (i : ℕ) {b : ℕ} → b ≡ get_or t i 256 → b < 256 → i + 1 ≤ length t
 byte_there t i e h = omega (arith, not_past t i (omega arith))
 
-pub over_zero : {n : ℕ} → (n ≡ 0 → ⊥) → 0 < n
-over_zero h = omega (arith, h)
-
 -- ---- words
 
 either_none : {A : Type 0} (b : Bool) → ◌≡◌ {A = Option A} (cond b none none) none
@@ -52,12 +51,6 @@ unfolding behind
 short [] u h = absurd (omega arith)
 short (a ∷ w) [] h = refl
 short (a ∷ w) (b ∷ u) h = rw (short w u (omega arith)) (either_none (eqb b a))
-
-pub nowhere : {A : Type 0} {t : List ℕ} {make : List ℕ → A} {o : Option A} → o ≡ none → Found t make o 0
-nowhere e = record { nothing = λ z. e; something = λ h. absurd (omega arith) }
-
-pub somewhere : {A : Type 0} {t : List ℕ} {make : List ℕ → A} {o : Option A} {at : ℕ} → 0 < at → at ≤ length t → o ≡ some (make (drop at t)) → Found t make o at
-somewhere h l e = record { nothing = λ z. absurd (omega arith); something = λ z. (e, l) }
 
 -- j bytes of w are compared
 pub record Spells (t : List ℕ) (i : ℕ) (w : List ℕ) (j : ℕ) : Type 0 where
@@ -80,14 +73,27 @@ module _ {t : List ℕ} {i : ℕ} {w : List ℕ} {j : ℕ} (s : Spells t i w j) 
       let z : i + (j + 1) ≡ i + j + 1 = omega arith in
       record { inside = omega arith; fits = s.fits; left = rw z (next h ∙ rw (eq-eqb _ _ e) refl) }
 
-  pub misspelled : j < length w → (get_or t (i + j) 0 ≡ get_or w j 0 → ⊥) → SpelledAs t (behind w (drop i t)) 0
-  misspelled h n = nowhere (next h ∙ rw (ne_eqb _ _ n) refl)
+  pub misspelled : j < length w → (get_or t (i + j) 0 ≡ get_or w j 0 → ⊥) → behind w (drop i t) ≡ none
+  misspelled h n = next h ∙ rw (ne_eqb _ _ n) refl
 
-  pub spelt : length w ≤ j → 0 < length w → SpelledAs t (behind w (drop i t)) (i + j)
+  pub spelt : length w ≤ j → behind w (drop i t) ≡ some (drop (i + length w) t)
   unfolding behind
-  spelt h p = let f = s.fits in let k = s.inside in somewhere (omega arith) (omega arith) (s.left ∙ rw (drop_of_length-le w h) refl)
+  spelt h = let k = s.inside in let e : j ≡ length w = omega arith in s.left ∙ rw (drop_of_length-le w h, e) refl
 
--- what is made of what is found
-pub then_found : {A B : Type 0} {t : List ℕ} {make : List ℕ → A} {o : Option A} {at : ℕ} (g : A → B) → Found t make o at
-    → Found t (λ u. g (make u)) (on o (λ a. some (g a))) at
-then_found g r = record { nothing = λ z. rw (r.nothing z) refl; something = λ h. (rw (r.something h).0 refl, (r.something h).1) }
+-- ---- a test for a byte
+
+pub is_byte : (r : S.Option ℕ) {b : ℕ} (x : ℕ) → unwrap_or r 256 ≡ b → true ≡ option_eq nat_eq r (Some x) → b ≡ x
+is_byte None x e n = absurd (true≢false n)
+is_byte (Some y) x e n = sym e ∙ eqb-true y x (sym n)
+
+pub no_byte : (r : S.Option ℕ) {b : ℕ} (x : ℕ) → unwrap_or r 256 ≡ b → x < 256 → false ≡ option_eq nat_eq r (Some x) → b ≡ x → ⊥
+no_byte None x e l n z = omega arith
+no_byte (Some y) x e l n z = absurd (true≢false (sym (n ∙ eq-eqb y x (e ∙ z))))
+
+pub when_not : (b : Bool) → true ≡ not b → false ≡ b
+when_not true h = sym h
+when_not false h = refl
+
+pub unless_not : (b : Bool) → false ≡ not b → true ≡ b
+unless_not true h = refl
+unless_not false h = absurd (true≢false (sym h))

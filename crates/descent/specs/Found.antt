@@ -1,69 +1,75 @@
--- What the parts of the descent find in the text t: the place behind it, 0 where it is not there, held against what Parser.antt computes.
-use Rattle.std.specs.Prelude.{ℕ, ◌+◌, ◌*◌, ◌/◌, ◌%◌, ◌≤◌, ◌<◌, ◌≡◌, List, length, drop}
-use Rattle.std.proofs.Math.Option.{Option, none, some}
+-- What the parts of the descent find, held against what Parser.antt computes of the bytes that are left of the text.
+use Rattle.std.specs.Prelude.{ℕ, ◌+◌, ◌*◌, ◌/◌, ◌≤◌, ◌<◌, ◌≡◌, ◌⊎◌, List, length, drop, Option, Some, None, MatchOption}
+use Rattle.std.proofs.Math.Option as M
 use Rattle.std.proofs.lemmas.List.Edits.{sets}
-use Rattle.l1.specs.Syntax.{Expr}
+use Rattle.l1.specs.Syntax.{Expr, int, bool, !◌, skip}
 use Rattle.l1.specs.Measures.{size}
-use Rattle.stored.specs.Stored.{node_bytes, bytes_from}
+use Rattle.stored.specs.Stored.{bytes_from}
 use Rattle.text_form.specs.Parser as p
+use Rattle.routine.specs.declared.Form.{Form}
+use Rattle.routine.specs.declared.Form.TheVariants.{Plus, Geq, Seq}
 use Rattle.descent.specs.declared.Place.{Place}
-use Rattle.descent.specs.declared.Number.{Number}
-use Rattle.descent.specs.declared.Leaf.{Leaf}
-use Rattle.descent.specs.declared.Joint.{Joint}
+use Rattle.descent.specs.declared.forms.Descent.{Descent}
+use Rattle.descent.specs.declared.text.Leaf.{Leaf}
+use Rattle.descent.specs.declared.text.Leaf.TheVariants.{Integer, Boolean, Location, Skip}
+use Rattle.descent.specs.declared.text.Text.{Text}
 
--- o is what `make` makes of the text from `at` on, or none where `at` is 0
-pub record Found {A : Type 0} (t : List ℕ) (make : List ℕ → A) (o : Option A) (at : ℕ) : Type 0 where
-  pub nothing : at ≡ 0 → o ≡ none
-  pub something : 0 < at → (o ≡ some (make (drop at t))) × (at ≤ length t)
+-- the bytes that are left of a text
+abbrev pub left : Text → List ℕ
+left s = drop s.at s.bytes.now
 
--- a word
-abbrev pub SpelledAs : List ℕ → Option (List ℕ) → ℕ → Type 0
-SpelledAs t o r = Found t (λ u. u) o r
+-- o is what `make` makes of what was found, or none where nothing was
+abbrev pub Found : {A B : Type 0} → M.Option A → Option B → (B → A) → Type 0
+Found o None make = o ≡ M.none
+Found o (Some x) make = o ≡ M.some (make x)
 
-pub record NumberAs (t : List ℕ) (bound : ℕ) (o : Option p.Number) (r : Number) : Type 0 where
-  pub is : Found t (p.number_of r.value) o r.at
-  pub small : r.value ≤ bound
-  pub no_value : r.at ≡ 0 → r.value ≡ 0
+-- an expression without parts
+abbrev pub expr_of : Leaf → Expr
+expr_of (Integer n) = int n
+expr_of (Boolean b) = bool b
+expr_of (Location l) = ! l
+expr_of Skip = skip
 
-abbrev pub leaf_is : ℕ → ℕ → ℕ → ℕ → Leaf
-leaf_is at kind arg word = record { at = at; kind = kind; arg = arg; word = word }
+-- the forms that have two parts
+abbrev pub TwoSides : Form → Type 0
+TwoSides f = (f ≡ Plus) ⊎ ((f ≡ Geq) ⊎ (f ≡ Seq))
 
--- an expression without parts, and the bytes of its node
-pub record LeafAs (t : List ℕ) (o : Option p.Leaf) (r : Leaf) : Type 0 where
-  pub expr : Expr
-  pub is : Found t (p.leaf_with expr) o r.at
-  pub one : size expr ≡ 1
-  pub bytes : (f : ℕ) → bytes_from f expr ≡ node_bytes r.kind r.arg 0 (r.word / 65536) (r.word % 65536)
-  pub kind_fits : r.kind < 256
-  pub arg_fits : r.arg < 256
-  pub word_fits : r.word < 4294967296
+-- one node more with the bytes w, where the slice has room for it
+pub record Noded (d : Descent) (w : List ℕ) (n : ℕ) (d' : Descent) : Type 0 where
+  pub room : d.count < length d.nodes.now / 8
+  pub held : d'.nodes.now ≡ sets d.nodes.now (8 * d.count) w
+  pub next : d'.count ≡ d.count + 1
+  pub root : n ≡ d.count
 
--- the kinds that have two parts
-pub data Known : ℕ → Type 0 where
-  plus_kind : Known 2
-  geq_kind : Known 3
-  seq_kind : Known 8
-  while_kind : Known 9
-
-pub record JointAs (t : List ℕ) (o : Option p.Joint) (r : Joint) : Type 0 where
-  pub is : Found t (p.joint_with r.kind) o r.at
-  pub known : Known r.kind
-  pub small : r.kind < 256
-
--- node f with the bytes w, where the slice has room for it
-pub record Noding (nodes : List ℕ) (f : ℕ) (w : List ℕ) (at : ℕ) (nodes' : List ℕ) (r : Place) : Type 0 where
-  pub kept : length nodes' ≡ length nodes
-  pub nothing : length nodes / 8 ≤ f → r.at ≡ 0
-  pub something : f < length nodes / 8 → (nodes' ≡ sets nodes (8 * f) w) × (r.at ≡ at) × (r.node ≡ f + 1)
+pub record Noding (d : Descent) (w : List ℕ) (r : Option ℕ) (d' : Descent) : Type 0 where
+  pub text : d'.text ≡ d.text
+  pub slice : d'.nodes.ghost_name ≡ d.nodes.ghost_name
+  pub kept : length d'.nodes.now ≡ length d.nodes.now
+  pub found : MatchOption r (length d.nodes.now / 8 ≤ d.count) (λ n. Noded d w n d')
 
 -- the expression that o is, its nodes numbered from f on
-pub record Reading (t nodes : List ℕ) (f : ℕ) (o : Option p.Parsed) (nodes' : List ℕ) (r : Place) : Type 0 where
+pub record Read (t nodes : List ℕ) (f : ℕ) (o : M.Option p.Parsed) (nodes' : List ℕ) (r : Place) : Type 0 where
+  pub expr : Expr
+  pub is : o ≡ M.some (p.parsed expr r.node (drop r.at t))
+  pub inside : r.at ≤ length t
+  pub held : nodes' ≡ sets nodes (8 * f) (bytes_from f expr)
+  pub count : r.node ≡ f + size expr
+  pub room : r.node ≤ length nodes / 8
+
+pub record Reading (t nodes : List ℕ) (f : ℕ) (o : M.Option p.Parsed) (nodes' : List ℕ) (r : Option Place) : Type 0 where
   pub kept : length nodes' ≡ length nodes
-  pub nothing : r.at ≡ 0 → o ≡ none
-  pub something : 0 < r.at
-      → (e : Expr)
-      × (o ≡ some (p.parsed e r.node (drop r.at t)))
-      × (r.at ≤ length t)
-      × (nodes' ≡ sets nodes (8 * f) (bytes_from f e))
-      × (r.node ≡ f + size e)
-      × (r.node ≤ length nodes / 8)
+  pub found : MatchOption r (o ≡ M.none) (λ q. Read t nodes f o nodes' q)
+
+-- the same in a descent, and the number of the root
+abbrev pub place_of : Descent → Place
+place_of d = record { at = d.text.at; node = d.count }
+
+pub record Rooted (d : Descent) (o : M.Option p.Parsed) (n : ℕ) (d' : Descent) : Type 0 where
+  pub read : Read d.text.bytes.now d.nodes.now d.count o d'.nodes.now (place_of d')
+  pub root : n + 1 ≡ d'.count
+
+pub record Reads (d : Descent) (o : M.Option p.Parsed) (r : Option ℕ) (d' : Descent) : Type 0 where
+  pub text : d'.text.bytes.now ≡ d.text.bytes.now
+  pub slice : d'.nodes.ghost_name ≡ d.nodes.ghost_name
+  pub kept : length d'.nodes.now ≡ length d.nodes.now
+  pub found : MatchOption r (o ≡ M.none) (λ n. Rooted d o n d')

@@ -2,32 +2,18 @@
 
 #![tactic(auto)]
 
-ghost use Rattle.std.specs.Prelude.{◌≡◌};
-ghost use Rattle.reader.specs.Says.{unread_of};
-ghost use Rattle.exports.specs.Says.{answer_of, refuses};
 ghost use Rattle.exported_reading.specs.Says.{SaysRead, SaysWrite};
 
 use exports::{ACCEPTED, Answer};
-use reader::{Taken, Unread};
-use writer::Written;
-
-fn unread(r: Unread) -> Answer
-    ensures { result ≡ answer_of (refuses (unread_of r)) }
-{
-    Answer {
-        number: reader::number_of(r),
-        also: reader::returned_by(r),
-    }
-}
 
 // The word of out: the length of the routine.
 pub fn rigvanesh_read(t: &[u8], m: usize, room: &mut [u8], out: &mut [u64; 1]) -> Answer
     ensures { SaysRead m t.now room.old out.old result out.new room.new }
 {
     match reader::read(t, m, room) {
-        Taken::Refused(r) => unread(r),
-        Taken::Routine(n) => {
-            out[0] = n as u64;
+        Err(unread) => exports::refused(unread),
+        Ok(n) => {
+            *out = [n as u64];
             ACCEPTED
         }
     }
@@ -38,9 +24,9 @@ pub fn rigvanesh_write(b: &[u8], buf: &mut [u8], out: &mut [u64; 1]) -> Answer
     ensures { SaysWrite b.now buf.old out.old result out.new buf.new }
 {
     match writer::write(b, buf) {
-        Written::Refused(r) => exports::refused(r),
-        Written::Text(n) => {
-            out[0] = n as u64;
+        Err(r) => exports::refused(r),
+        Ok(n) => {
+            *out = [n as u64];
             ACCEPTED
         }
     }

@@ -1,5 +1,5 @@
 -- The answers of the check, the run and the text as C has them: what is returned, and the words that out then holds.
-use Rattle.std.specs.Prelude.{ℕ, ◌≡◌, cond, List, [], ◌∷◌}
+use Rattle.std.specs.Prelude.{ℕ, ◌≡◌, cond, List, [], ◌∷◌, Result, Ok, Err}
 use Rattle.std.proofs.lemmas.List.Edits.{sets}
 use Rattle.l1.specs.Store.{Store}
 use Rattle.l1.specs.Judge.{type_no}
@@ -10,8 +10,8 @@ use Rattle.stored.specs.Answers.{Checks, Runs, Writes}
 use Rattle.routine.specs.Says.{returned, refusal_of}
 use Rattle.machine.specs.declared.state.Ending.{Ending}
 use Rattle.machine.specs.declared.state.Ending.TheVariants.{Int, Bool, Skip, Overflow, Fuel}
-use Rattle.runner.specs.declared.Ran.{Ran}
-use Rattle.runner.specs.declared.Ran.TheVariants.{Refused, Ended}
+use Rattle.routine.specs.declared.Refusal as Code
+use Rattle.runner.specs.declared.End.{End}
 use Rattle.runner.specs.Says.{ran_of}
 use Rattle.exports.specs.declared.Answer.{Answer}
 
@@ -60,9 +60,9 @@ ending_word Skip = 0
 ending_word (Overflow i) = i
 ending_word Fuel = 0
 
-abbrev pub run_handed : Ran → Handed
-run_handed (Refused r) = refuses (refusal_of r)
-run_handed (Ended e) = tells (ending_no e.ending ∷ ending_word e.ending ∷ e.steps ∷ e.loops ∷ [])
+abbrev pub run_handed : Result End Code.Refusal → Handed
+run_handed (Err r) = refuses (refusal_of r)
+run_handed (Ok e) = tells (ending_no e.ending ∷ ending_word e.ending ∷ e.steps ∷ e.loops ∷ [])
 
 abbrev pub SaysRun : List ℕ → Store → ℕ → List ℕ → Answer → List ℕ → Store → Type 0
 SaysRun b s fuel out r out' s' = Says (λ a. Runs b s fuel (ran_of a) s') run_handed out r out'

@@ -3,15 +3,10 @@
 #![tactic(auto)]
 
 ghost use Rattle.std.specs.Prelude.{◌≡◌};
-ghost use Rattle.l1.specs.Judge.{type_no};
-ghost use Rattle.routine.specs.Says.{refusal_of};
-ghost use Rattle.checker.specs.Rules.{type_of};
 ghost use Rattle.exports.specs.Says.{SaysCheck, SaysRun, answer_of, refuses, ending_no, ending_word};
 
-use checker::{Checked, Ty};
 use machine::Ending;
-use routine::Refusal;
-use runner::Ran;
+use routine::Refuses;
 
 // 01's number of a refusal and what it also returns; 0 and 0 where nothing is refused. It is returned, and not lent, so that a refusal changes
 // nothing of what is lent.
@@ -24,22 +19,13 @@ pub struct Answer {
 
 pub const ACCEPTED: Answer = Answer { number: 0, also: 0 };
 
-pub fn refused(r: Refusal) -> Answer
-    ensures { result ≡ answer_of (refuses (refusal_of r)) }
+// The answer for a refusal, whatever is refused. C has no Option: where a number returns nothing else, it is told 0.
+pub fn refused<R: Refuses>(r: R) -> Answer
+    ensures { result ≡ answer_of (refuses (R.refusal r)) }
 {
     Answer {
-        number: routine::number_of(r),
-        also: routine::returned_by(r),
-    }
-}
-
-fn type_of(t: Ty) -> u64
-    ensures { result ≡ type_no (type_of t) }
-{
-    match t {
-        Ty::Int => 0,
-        Ty::Bool => 1,
-        Ty::Unit => 2,
+        number: r.number(),
+        also: r.also().unwrap_or(0),
     }
 }
 
@@ -48,18 +34,15 @@ pub fn rigvanesh_check(b: &[u8], out: &mut [u64; 4]) -> Answer
     ensures { SaysCheck b.now out.old result out.new }
 {
     match checker::check(b) {
-        Checked::Refused(r) => refused(r),
-        Checked::Accepted(t) => {
-            let ty = t.ty;
-            out[0] = type_of(ty);
-            out[1] = t.working as u64;
-            out[2] = t.reads;
-            out[3] = t.writes;
+        Err(r) => refused(r),
+        Ok(told) => {
+            *out = [told.ty as u64, told.working as u64, told.reads, told.writes];
             ACCEPTED
         }
     }
 }
 
+// C has no enum with values: how a run ended is a number, and its value or its node a word.
 fn ending_of(e: Ending) -> u64
     ensures { result ≡ ending_no e }
 {
@@ -76,11 +59,10 @@ fn word_of(e: Ending) -> u64
     ensures { result ≡ ending_word e }
 {
     match e {
-        Ending::Int(n) => routine::bits_of(n) as u64,
-        Ending::Bool(t) => { if t { 1 } else { 0 } }
-        Ending::Skip => 0,
-        Ending::Overflow(i) => i as u64,
-        Ending::Fuel => 0,
+        Ending::Int(n) => u64::from(n.cast_unsigned()),
+        Ending::Bool(t) => u64::from(t),
+        Ending::Overflow(i) => u64::from(i),
+        Ending::Skip | Ending::Fuel => 0,
     }
 }
 
@@ -89,13 +71,14 @@ pub fn rigvanesh_run(b: &[u8], s: &mut [i32], fuel: u32, out: &mut [u64; 4]) -> 
     ensures { SaysRun b.now s.old fuel out.old result out.new s.new }
 {
     match runner::run(b, s, fuel) {
-        Ran::Refused(r) => refused(r),
-        Ran::Ended(e) => {
-            let ending = e.ending;
-            out[0] = ending_of(ending);
-            out[1] = word_of(ending);
-            out[2] = e.steps;
-            out[3] = e.loops;
+        Err(r) => refused(r),
+        Ok(end) => {
+            *out = [
+                ending_of(end.ending),
+                word_of(end.ending),
+                end.steps,
+                end.loops,
+            ];
             ACCEPTED
         }
     }

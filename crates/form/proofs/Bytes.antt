@@ -13,6 +13,7 @@ use lib.ListN.{length, get_or, drop, length-append, get_or-eq_default}
 use lib.Seq.{drop-cons}
 use Rattle.text_form.specs.Automaton.{Sym, lit, word, begin, next, sticks, rest}
 use Rattle.text_form.proofs.Notation.{and_both}
+use Rattle.form.specs.declared.Level.{Level}
 use Rattle.form.specs.Levels.{turned, levels}
 use Rattle.form.specs.Places.{At, Off, Fits}
 
@@ -30,9 +31,6 @@ past t i h = get_or-eq_default t 256 h
 pub not_past : (t : List ℕ) (i : ℕ) → get_or t i 256 < 256 → i < length t
 not_past t i h = elim (dec_lt i (length t)) [ yes l ↦ l | no l ↦ absurd (omega (arith, past t i (omega arith))) ]
 
-pub byte_inside : {x b : ℕ} (t : List ℕ) (i : ℕ) → x ≡ get_or t i 256 → x ≡ b → b < 256 → i + 1 ≤ length t
-byte_inside t i hx e l = let n = not_past t i (omega arith) in omega arith
-
 get_d_end : (t : List ℕ) (i : ℕ) → i ≤ length t → get_or (t ++ 256 ∷ []) i 0 ≡ get_or t i 256
 get_d_end [] zero h = refl
 get_d_end [] (suc i) h = absurd (omega arith)
@@ -47,7 +45,7 @@ rest_cons t i h =
 
 -- ---- one byte
 
-module _ {t : List ℕ} {i : ℕ} {st : List Sym} {ls : List ℕ} (a : At t i st ls) where
+module _ {t : List ℕ} {i : ℕ} {st : List Sym} {ls : List Level} (a : At t i st ls) where
   -- it fits
   pub byte : {b : ℕ} (st' : List Sym) → get_or t i 256 ≡ b → b < 256 → next st b ≡ some st' → At t (i + 1) st' (turned t i b ls)
   unfolding sticks levels
@@ -84,7 +82,7 @@ plain [] = true
 plain (b ∷ w) = plain_byte b && plain w
 
 -- the levels that are left behind it
-abbrev pub shut : List ℕ → List ℕ → List ℕ
+abbrev pub shut : List ℕ → List Level → List Level
 shut [] ls = ls
 shut (b ∷ w) ls = shut w (cond (eqb b 41) (drop 1 ls) ls)
 
@@ -98,7 +96,7 @@ module _ {t : List ℕ} {i b : ℕ} {w : List ℕ} {r : ℕ} (f : Fits t i (b �
       let shift : (j : ℕ) → i + 1 + j ≡ i + suc j = λ j. omega arith in
       record { same = λ j l. rw (shift j) (f.same (suc j) (omega arith)); short = omega arith; inside = omega arith }
 
-module _ {t : List ℕ} {ls : List ℕ} where
+module _ {t : List ℕ} {ls : List Level} where
   first_on : {i : ℕ} (b : ℕ) (w : List ℕ) (st : List Sym) → plain (b ∷ w) ≡ true → get_or t i 256 ≡ b → At t i (lit b ∷ word w st) ls
       → At t (i + 1) (word w st) (cond (eqb b 41) (drop 1 ls) ls)
   unfolding next begin
@@ -106,14 +104,14 @@ module _ {t : List ℕ} {ls : List ℕ} where
       let q = and_both (ltb b 256) (not (eqb b 40)) (and_both (plain_byte b) (plain w) p).0 in
       rw (not-true (eqb b 40) q.1) at (byte a (word w st) e (ltb-true b 256 q.0) (rw (eq-eqb b b refl)))
 
-pub word_on : {t : List ℕ} {i : ℕ} {ls : List ℕ} (w : List ℕ) (st : List Sym) → plain w ≡ true → Fits t i w (length w) → At t i (word w st) ls
+pub word_on : {t : List ℕ} {i : ℕ} {ls : List Level} (w : List ℕ) (st : List Sym) → plain w ≡ true → Fits t i w (length w) → At t i (word w st) ls
     → At t (i + length w) st (shut w ls)
 word_on {i = i} [] st p f a = let e : i + 0 ≡ i = omega arith in rw e a
 word_on {i = i} (b ∷ w) st p f a =
     let s : i + 1 + length w ≡ i + suc (length w) = omega arith in
     rw s at (word_on {i = i + 1} w st (and_both (plain_byte b) (plain w) p).1 (fits_tail f) (first_on b w st p (fits_first f) a))
 
-pub word_off : {t : List ℕ} {i r : ℕ} {ls : List ℕ} (w : List ℕ) (st : List Sym) → plain w ≡ true → Fits t i w r → r < length w
+pub word_off : {t : List ℕ} {i r : ℕ} {ls : List Level} (w : List ℕ) (st : List Sym) → plain w ≡ true → Fits t i w r → r < length w
     → (get_or t (i + r) 256 ≡ get_or w r 0 → ⊥) → At t i (word w st) ls → Off t (i + r)
 unfolding next begin
 word_off [] st p f l n a = absurd (omega arith)

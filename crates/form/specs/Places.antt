@@ -1,12 +1,18 @@
 -- What is to come at byte i of the text t, and what each part of the pass finds there.
-use Rattle.std.specs.Prelude.{ℕ, ◌+◌, ◌≤◌, ◌<◌, ◌≡◌, Bool, false, List, ◌∷◌, length, get_or, drop}
+use Rattle.std.specs.Prelude.{ℕ, ◌+◌, ◌≤◌, ◌<◌, ◌≡◌, Bool, true, false, Result, Ok, Err, List, ◌∷◌, length, get_or, drop}
 use Rattle.text_form.specs.Automaton.{Stop, code, Sym, lit, more, opened, joint, sticks, rest, total}
-use Rattle.form.specs.Levels.{has, wants, goal, all, place_at, levels, Stacked}
-use Rattle.form.specs.declared.Token.{Token}
-use Rattle.form.specs.declared.Token.TheVariants.{Wrong, Value, Opened, Inside, Closed, Ended}
+use Rattle.form.specs.Levels.{inner, has, wants, goal, all, place_at, levels, Stacked}
+use Rattle.form.specs.declared.Start.{Start}
+use Rattle.form.specs.declared.Next.{Next}
+use Rattle.form.specs.declared.Level.{Level}
+use Rattle.form.specs.declared.Level.TheVariants.{Close}
+use Rattle.form.specs.declared.Point.{Point}
+use Rattle.form.specs.declared.Point.TheVariants.{Wants, Has}
+use Rattle.form.specs.declared.Start.TheVariants.{Value, Opened}
+use Rattle.form.specs.declared.Next.TheVariants.{Inside, Closed, Ended}
 
 -- the bytes before i fit, the symbols st are to come, and the forms open there have the levels ls
-pub record At (t : List ℕ) (i : ℕ) (st : List Sym) (ls : List ℕ) : Type 0 where
+pub record At (t : List ℕ) (i : ℕ) (st : List Sym) (ls : List Level) : Type 0 where
   pub inside : i ≤ length t
   pub fits : total t ≡ i + sticks st (rest t i)
   pub held : levels t i ≡ ls
@@ -20,10 +26,19 @@ abbrev pub Fine : List ℕ → Type 0
 Fine t = total t ≡ length t + 1
 
 -- an expression at level l stands at i, complete or still to come
-pub record State (t : List ℕ) (i l : ℕ) (complete : Bool) : Type 0 where
+pub record State (t : List ℕ) (i : ℕ) (l : Level) (complete : Bool) : Type 0 where
   pub at : At t i (goal complete l (all (levels t i))) (levels t i)
   pub stack : Stacked l (levels t i)
   pub place : complete ≡ false → place_at t i ≡ l
+
+-- the same of a point of the pass
+abbrev pub offset : Point → ℕ
+offset (Wants i l) = i
+offset (Has i l) = i
+
+abbrev pub Stands : List ℕ → Point → Type 0
+Stands t (Wants i l) = State t i l false
+Stands t (Has i l) = State t i l true
 
 -- the first r bytes of w stand at i
 pub record Fits (t : List ℕ) (i : ℕ) (w : List ℕ) (r : ℕ) : Type 0 where
@@ -31,55 +46,71 @@ pub record Fits (t : List ℕ) (i : ℕ) (w : List ℕ) (r : ℕ) : Type 0 where
   pub short : r ≤ length w
   pub inside : i + r ≤ length t
 
--- all of w stands at i and the answer is x, or the place of the first other byte
-pub data Spelled (t : List ℕ) (i : ℕ) (w : List ℕ) (x : Token) : Token → Type 0 where
-  spelt : Fits t i w (length w) → Spelled t i w x x
-  broken : {r : ℕ} → Fits t i w r → r < length w → (get_or t (i + r) 256 ≡ get_or w r 0 → ⊥) → Spelled t i w x (Wrong (i + r))
+-- x of what ends at k, or the byte that does not fit
+abbrev pub ended_by : {T : Type 0} → (ℕ → T) → Result ℕ ℕ → Result T ℕ
+ended_by x (Ok k) = Ok (x k)
+ended_by x (Err k) = Err k
+
+-- the byte at i, or i, where the text ends
+abbrev pub Byte : List ℕ → ℕ → Result ℕ ℕ → Type 0
+Byte t i (Ok b) = (b ≡ get_or t i 256) × (i < length t) × (b < 256)
+Byte t i (Err k) = (k ≡ i) × (get_or t i 256 ≡ 256)
+
+-- all of w stands at i, up to its end, or up to the first other byte
+pub data Spelled (t : List ℕ) (i : ℕ) (w : List ℕ) : Result ℕ ℕ → Type 0 where
+  spelt : Fits t i w (length w) → Spelled t i w (Ok (i + length w))
+  broken : {r : ℕ} → Fits t i w r → r < length w → (get_or t (i + r) 256 ≡ get_or w r 0 → ⊥) → Spelled t i w (Err (i + r))
 
 -- digits from i up to r
 pub record Digits (t : List ℕ) (i r : ℕ) : Type 0 where
   pub forth : i ≤ r
   pub short : r ≤ length t
-  pub past : (c : Stop) (st : List Sym) (ls : List ℕ) → At t i (more c ∷ st) ls → At t r (lit (code c) ∷ st) ls
+  pub past : (c : Stop) (st : List Sym) (ls : List Level) → At t i (more c ∷ st) ls → At t r (lit (code c) ∷ st) ls
 
--- a number from i up to r, none where r is i
-pub record Number (s : Stop → Sym) (t : List ℕ) (i r : ℕ) : Type 0 where
-  pub forth : i ≤ r
+-- a number from i up to r, or none
+pub record Numbered (s : Stop → Sym) (t : List ℕ) (i r : ℕ) : Type 0 where
+  pub forth : i < r
   pub short : r ≤ length t
-  pub none : r ≤ i → (c : Stop) (st : List Sym) (ls : List ℕ) → At t i (s c ∷ st) ls → Off t i
-  pub past : i < r → (c : Stop) (st : List Sym) (ls : List ℕ) → At t i (s c ∷ st) ls → At t r (lit (code c) ∷ st) ls
+  pub past : (c : Stop) (st : List Sym) (ls : List Level) → At t i (s c ∷ st) ls → At t r (lit (code c) ∷ st) ls
 
--- and its token
-pub data Valued (i k : ℕ) : Token → Type 0 where
-  valued : i < k → Valued i k (Value k)
-  unvalued : k ≤ i → Valued i k (Wrong i)
+pub data Number (s : Stop → Sym) (t : List ℕ) (i : ℕ) : Result ℕ ℕ → Type 0 where
+  number : {r : ℕ} → Numbered s t i r → Number s t i (Ok r)
+  none : ((c : Stop) (st : List Sym) (ls : List Level) → At t i (s c ∷ st) ls → Off t i) → Number s t i (Err i)
 
 -- an expression at level m is to come at k inside a form
-pub record Entered (t : List ℕ) (k m : ℕ) (st : List Sym) (ls : List ℕ) : Type 0 where
+pub record Entered (t : List ℕ) (k : ℕ) (m : Level) (st : List Sym) (ls : List Level) : Type 0 where
   pub at : At t k (wants m st) ls
   pub place : place_at t k ≡ m
-  pub inner : 0 < m
+  pub inside : inner m ≡ true
 
 -- from i on: such an expression, told by x, or a byte that does not fit
-pub data Enters (t : List ℕ) (i : ℕ) (st : List Sym) (ls : List ℕ) (x : ℕ → ℕ → Token) : Token → Type 0 where
-  enters : (k m : ℕ) → i ≤ k → Entered t k m st ls → Enters t i st ls x (x k m)
-  stays : {k : ℕ} → Off t k → Enters t i st ls x (Wrong k)
+pub data Enters {T : Type 0} (t : List ℕ) (i : ℕ) (st : List Sym) (ls : List Level) (x : ℕ → Level → T) : Result T ℕ → Type 0 where
+  enters : (k : ℕ) (m : Level) → i ≤ k → Entered t k m st ls → Enters t i st ls x (Ok (x k m))
+  stays : {k : ℕ} → Off t k → Enters t i st ls x (Err k)
 
 -- behind "(", and behind a left side
-abbrev pub Opens : List ℕ → ℕ → Token → Type 0
-Opens t i r = (st : List Sym) (ls : List ℕ) → At t i (opened ∷ st) ls → Enters t i st ls Opened r
+abbrev pub Opens : List ℕ → ℕ → Result Start ℕ → Type 0
+Opens t i r = (st : List Sym) (ls : List Level) → At t i (opened ∷ st) ls → Enters t i st ls Opened r
 
-abbrev pub Joins : List ℕ → ℕ → Token → Type 0
-Joins t i r = (st : List Sym) (ls : List ℕ) → At t i (lit 32 ∷ joint ∷ st) ls → Enters t (i + 1) st ls Inside r
+abbrev pub Joins : List ℕ → ℕ → Result ℕ ℕ → Type 0
+Joins t i r = (st : List Sym) (ls : List Level) → At t i (lit 32 ∷ joint ∷ st) ls → Enters t (i + 1) st ls Inside (ended_by (λ k. Inside k Close) r)
 
--- what a token says, found at i where the level is l
-pub data Told (t : List ℕ) (i l : ℕ) : Token → Type 0 where
-  wrong : {k : ℕ} → Off t k → Told t i l (Wrong k)
-  value : {k : ℕ} → i < k → At t k (has l (all (levels t i))) (levels t i) → Told t i l (Value k)
-  opens : {k m : ℕ} → i < k → Entered t k m (has l (all (levels t i))) (l ∷ levels t i) → Told t i l (Opened k m)
-  inside : {k m : ℕ} → i < k → 0 < l → Entered t k m (all (levels t i)) (levels t i) → Told t i l (Inside k m)
-  closed : {k : ℕ} → i < k → 0 < l → At t k (all (levels t i)) (drop 1 (levels t i)) → Told t i l (Closed k)
-  ended : Fine t → Told t i l Ended
+-- what is found at i where an expression at level l is to come
+pub data Starts (t : List ℕ) (i : ℕ) (l : Level) : Result Start ℕ → Type 0 where
+  starts_wrong : {k : ℕ} → Off t k → Starts t i l (Err k)
+  value : {k : ℕ} → i < k → At t k (has l (all (levels t i))) (levels t i) → Starts t i l (Ok (Value k))
+  opens : {k : ℕ} {m : Level} → i < k → Entered t k m (has l (all (levels t i))) (l ∷ levels t i) → Starts t i l (Ok (Opened k m))
 
-abbrev pub Wants : List ℕ → ℕ → Token → Type 0
-Wants t i r = (l : ℕ) → State t i l false → Told t i l r
+-- and where one is complete
+pub data Follows (t : List ℕ) (i : ℕ) (l : Level) : Result Next ℕ → Type 0 where
+  follows_wrong : {k : ℕ} → Off t k → Follows t i l (Err k)
+  inside : {k : ℕ} {m : Level} → i < k → inner l ≡ true → Entered t k m (all (levels t i)) (levels t i) → Follows t i l (Ok (Inside k m))
+  closed : {k : ℕ} → i < k → inner l ≡ true → At t k (all (levels t i)) (drop 1 (levels t i)) → Follows t i l (Ok (Closed k))
+  ended : Fine t → Follows t i l (Ok Ended)
+
+-- where an expression is to come, and where it is one without parts
+abbrev pub Wanted : List ℕ → ℕ → Result Start ℕ → Type 0
+Wanted t i r = (l : Level) → State t i l false → Starts t i l r
+
+abbrev pub Leaf : List ℕ → ℕ → Result ℕ ℕ → Type 0
+Leaf t i r = ¬ (get_or t i 256 ≡ 40) → Wanted t i (ended_by Value r)

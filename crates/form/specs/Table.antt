@@ -1,28 +1,32 @@
 -- A table of the innermost levels, the innermost last, and a turn of the pass.
-use Rattle.std.specs.Prelude.{ℕ, suc, ◌+◌, ◌≤◌, ◌<◌, ◌≡◌, List, ◌∷◌, length, get_or, drop}
-use Rattle.form.specs.Levels.{place_at, levels}
-use Rattle.form.specs.Places.{Off, Fine, State}
-use Rattle.form.specs.declared.Turn.{Turn}
-use Rattle.form.specs.declared.Turn.TheVariants as n
+use Rattle.std.specs.Prelude.{ℕ, suc, ◌+◌, ◌≤◌, ◌<◌, ◌≡◌, Option, Some, None, Result, Ok, Err, List, ◌∷◌, length, get_or, drop}
+use Rattle.form.specs.Levels.{levels, place_behind, levels_behind}
+use Rattle.form.specs.Places.{Off, Fine, Stands, offset}
+use Rattle.form.specs.declared.Level.{Level}
+use Rattle.form.specs.declared.Level.TheVariants.{Root}
+use Rattle.form.specs.declared.Point.{Point}
 
--- its first h entries are the h innermost of the levels ls, and 0 beyond them
-pub record Kept (ls tab : List ℕ) (h : ℕ) : Type 0 where
+-- its first h entries are the h innermost of the levels ls, and Root beyond them
+pub record Kept (ls tab : List Level) (h : ℕ) : Type 0 where
   pub enough : 2 ≤ length tab
   pub room : h ≤ length tab
-  pub kept : (k j : ℕ) → suc (k + j) ≡ h → get_or ls k 0 ≡ get_or tab j 0
+  pub kept : (k j : ℕ) → suc (k + j) ≡ h → get_or ls k Root ≡ get_or tab j Root
 
--- q is the innermost bracket that is open before p, or 0
-pub record Outer (t : List ℕ) (p q : ℕ) : Type 0 where
-  pub back : q ≤ p
-  pub here : get_or (levels t p) 0 0 ≡ place_at t q
-  pub beyond : drop 1 (levels t p) ≡ levels t q
+-- q are the bytes before the innermost bracket that is open behind the bytes p, or none
+pub record Outer (p q : List ℕ) : Type 0 where
+  pub here : get_or (levels_behind p) 0 Root ≡ place_behind q
+  pub beyond : drop 1 (levels_behind p) ≡ levels_behind q
 
 -- a level l is put on the table
-abbrev pub Pushes : List ℕ → ℕ → ℕ → List ℕ → ℕ → Type 0
-Pushes tab h l tab' r = (ls : List ℕ) → Kept ls tab h → Kept (l ∷ ls) tab' r
+abbrev pub Pushes : List Level → ℕ → Level → List Level → ℕ → Type 0
+Pushes tab h l tab' r = (ls : List Level) → Kept ls tab h → Kept (l ∷ ls) tab' r
 
--- what a turn of the pass at i leads to, the table being tab then
-abbrev pub Turns : List ℕ → ℕ → List ℕ → Turn → Type 0
-Turns t i tab (n.Off k) = Off t k
-Turns t i tab n.Fine = Fine t
-Turns t i tab (n.On k l c h) = State t k l c × Kept (levels t k) tab h × (i < k)
+-- the innermost of the levels ls, l, is taken from it
+abbrev pub Pops : List Level → Level → List Level → ℕ → Type 0
+Pops ls l tab h = (l ≡ get_or ls 0 Root) × Kept (drop 1 ls) tab h
+
+-- what a turn of the pass at i leads to, the first h entries of the table being kept then
+abbrev pub Turns : List ℕ → ℕ → List Level → ℕ → Result (Option Point) ℕ → Type 0
+Turns t i tab h (Err k) = Off t k
+Turns t i tab h (Ok None) = Fine t
+Turns t i tab h (Ok (Some p)) = Stands t p × Kept (levels t (offset p)) tab h × (i < offset p)

@@ -1,9 +1,7 @@
 -- The contract of `form`: what it says of the text t.
-use Rattle.std.specs.Prelude.{ℕ, List}
+use Rattle.std.specs.Prelude.{ℕ, List, Result, Ok, Err}
 use Rattle.text_form.specs.Form as text
-use Rattle.form.specs.declared.Verdict.{Verdict}
-use Rattle.form.specs.declared.Verdict.TheVariants.{OfForm, Leaves}
 
-abbrev pub Says : List ℕ → Verdict → Type 0
-Says t OfForm = text.OfForm t
-Says t (Leaves i) = text.Leaves t i
+abbrev pub Says : List ℕ → Result (Unit {0}) ℕ → Type 0
+Says t (Ok _) = text.OfForm t
+Says t (Err i) = text.Leaves t i

@@ -2,40 +2,29 @@
 
 #![tactic(auto)]
 
+ghost use Rattle.std.specs.Prelude.{IfOk, IfErr};
 ghost use Rattle.io.specs.Counts.{IsPrefixLen};
 
 use std::io::Read;
 
-// How many bytes were read, and whether a read failed.
+// A read failed, with `count` bytes before it.
 #[derive(Drop)]
-pub struct Got {
+pub struct Unreadable {
     pub count: usize,
-    pub failed: bool,
 }
 
-// Fills the room; with fewer bytes than it holds where the input ends, or where a read fails.
-pub fn fill<R: Read>(from: &mut R, room: &mut [u8]) -> Got
-    ensures { IsPrefixLen result.count room.new }
+// Fills the room, and tells how many bytes were read: fewer than it holds where the input ends.
+pub fn fill<R: Read>(from: &mut R, room: &mut [u8]) -> Result<usize, Unreadable>
+    ensures filled { IfOk result (λ n. IsPrefixLen n room.new) }
+    ensures before { IfErr result (λ e. IsPrefixLen e.count room.new) }
 {
-    let mut done = 0;
-    while done < room.len() {
-        match from.read(&mut room[done..]) {
-            Ok(more) => {
-                if more == 0 {
-                    break;
-                }
-                done += more;
-            }
-            Err(_) => {
-                return Got {
-                    count: done,
-                    failed: true,
-                };
-            }
+    let mut count = 0;
+    while count < room.len() {
+        match from.read(&mut room[count..]) {
+            Ok(0) => break,
+            Ok(more) => count += more,
+            Err(_) => return Err(Unreadable { count }),
         }
     }
-    Got {
-        count: done,
-        failed: false,
-    }
+    Ok(count)
 }

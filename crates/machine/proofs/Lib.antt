@@ -6,4 +6,3 @@ pub mod ValueActs  -- what a value in the place on top comes to
 pub mod Turns  -- a turn of the machine's loop
 pub mod Loops  -- what the two loops share
 pub mod FirstMoment  -- the first moment of a run
-pub mod LentPlaces  -- what is stored of a place gives it back, and what stands in the lent slice

@@ -1,10 +1,9 @@
--- What the two loops of the machine share, wherever each holds its places: what it keeps, what a turn asks, how it goes on and the ways out.
+-- The loop of the machine: what it keeps, what a turn asks, how it goes on and the ways out.
 use Prim.Native.Nat.{ℕ, zero, suc, ◌+◌, ◌-◌, ◌≤◌, ◌<◌}
 use native.Mathlib.Omega.{arith}
-use mathlib.Core.Path.{◌≡◌, refl, sym, ◌∙◌, subst}
-use mathlib.Core.Bool.{Bool, true, false}
+use mathlib.Core.Path.{◌≡◌, sym, ◌∙◌, subst}
 use mathlib.Core.List.{List}
-use lib.ListN.{length, get_or, set, length-set}
+use lib.ListN.{length, get_or}
 use Rattle.l1.specs.Syntax.{Expr, v_int, v_bool, v_skip, Ty}
 use Rattle.l1.specs.Store.{Store}
 use Rattle.l1.specs.Typing.{◌⊢◌∶◌}
@@ -12,14 +11,14 @@ use Rattle.l1.specs.Run.{Run, answer, Yields, ends_value, ends_overflow, ends_fu
 use Rattle.l1.proofs.Runs.{run_keeps_type, whiles_among_steps}
 use Rattle.l1.proofs.Outcomes.{run_then_end}
 use Rattle.stored.specs.Refusals.{locations, env}
-use Rattle.routine.specs.declared.Sizes.{Sizes}
-use Rattle.routine.specs.Open.{SizesOf, root_of, Runnable}
+use Rattle.routine.specs.Open.{root_of}
 use Rattle.machine.specs.Contexts.{plug}
 use Rattle.machine.specs.State.{expr_of, Seen, takes_of, redex, HeldUnder, search_at, blank, stack, outcome_of, end_of}
-use Rattle.machine.specs.Acts.{grows_of, is_over, over_at, written, Within, Stepped}
+use Rattle.machine.specs.Acts.{written, Within, Stepped}
 use Rattle.machine.specs.Moment.{meaning, LastStep, Moment}
 use Rattle.machine.specs.declared.state.Work.{Work}
 use Rattle.machine.specs.declared.state.Work.TheVariants as w
+use Rattle.machine.specs.declared.state.Act.TheVariants as a
 use Rattle.machine.specs.declared.state.Place.{Place}
 use Rattle.machine.specs.declared.state.Frame.{Frame}
 use Rattle.machine.specs.declared.state.Pending.{Pending}
@@ -28,13 +27,13 @@ use Rattle.machine.specs.declared.state.Next.{Next}
 use Rattle.machine.specs.declared.state.Ending.{Ending}
 use Rattle.machine.specs.declared.state.Ending.TheVariants as e
 use Rattle.machine.proofs.Stacks.{plug_step, plug_overflow, plug_typed}
-use Rattle.machine.proofs.Turns.{split, search_split, stands, joined, held_after, over_of, step_of, within_of, one_at_most, kept_of, moved, left, falls, room_after, keeps_length, search_fits}
+use Rattle.machine.proofs.Turns.{NoOverflow, split, placed, height_after, frames_after, search_split, stands, joined, held_after, over_of, step_of, within_of, one_at_most, kept_of, moved, left, falls, room_after, keeps_length, search_fits}
 
 -- ---- what a loop asks, keeps and says
 
 -- of the caller
-abbrev Asked : List ℕ → ℕ → Store → Pending → Machine → Sizes → Type 0
-Asked b limit s p m z = (limit < 4294967296) × (m.steps ≤ limit) × ((s₀ : Store) × Moment b s₀ s p m) × SizesOf b z
+abbrev Asked : List ℕ → ℕ → Store → Pending → Machine → Type 0
+Asked b limit s p m = (limit < 4294967296) × (m.steps ≤ limit) × ((s₀ : Store) × Moment b s₀ s p m)
 
 -- whatever store a run came from, if it stood at the entry's moment then it stands at this one, and the steps are within the limit
 pub record Kept (b : List ℕ) (limit : ℕ) (s₀ : Store) (p₀ : Pending) (m₀ : Machine) (s : Store) (p : Pending) (m : Machine) : Type 0 where
@@ -80,7 +79,7 @@ room_in i at q = omega (arith, i.room, i.frames)
 -- ---- a turn
 
 module _ {b : List ℕ} {limit : ℕ} {s₀ s : Store} {p₀ p : Pending} {m₀ m : Machine} (k : Kept b limit s₀ p₀ m₀ s p m) where
-  module _ {z : Sizes} (a : Asked b limit s₀ p₀ m₀ z) where
+  module _ (a : Asked b limit s₀ p₀ m₀) where
     -- the moment of the run that the caller has
     here : Moment b a.2.0 s p m
     here = k.moment _ a.2.1
@@ -97,20 +96,18 @@ module _ {b : List ℕ} {limit : ℕ} {s₀ s : Store} {p₀ p : Pending} {m₀ 
 
     -- what `step` asks
     pub may_step : (at : ℕ) → at + takes_of m.work ≡ p.height
-        → (Runnable b × Seen b m.work × HeldUnder b m.work (place_at p at) × (locations b ≤ length s)
-        × ((T : Ty) × (env b ⊢ redex b m.work (place_at p at) ∶ T)) × SizesOf b z) × ((m.steps < 8589934592) × (m.loops < 8589934592))
+        → (Seen b m.work × HeldUnder b m.work (place_at p at) × (locations b ≤ length s)
+        × ((T : Ty) × (env b ⊢ redex b m.work (place_at p at) ∶ T))) × ((m.steps < 8589934592) × (m.loops < 8589934592))
     may_step at q =
         let i = here in
         let low = k.low in
         let few = a.0 in
         let t = subst (λ (x : Expr). env b ⊢ x ∶ i.runnable.type) (same b p m at q) (run_keeps_type i.run i.runnable.typed) in (
           (
-            i.runnable,
             i.seen,
             stands b p.frames at m.work p.height q i.held,
             omega (arith, keeps_length i, i.covered),
             plug_typed (stack b p.frames at) (redex b m.work (place_at p at)) t,
-            a.3,
           ),
           (omega arith, omega (arith, whiles_among_steps i.run)),
         )
@@ -131,50 +128,45 @@ module _ {b : List ℕ} {limit : ℕ} {s₀ s : Store} {p₀ p : Pending} {m₀ 
         let none : limit - m.steps ≡ 0 = omega (arith, g.steps, one_at_most g.went) in
         (v, run_then_end v.run low (rw (none, same b p m at t.parts) (ends_fuel (plug_step (stack b p.frames at) d))))
 
-    module _ {over : Bool} (told : over ≡ is_over r.act) where
-      pub out_at_overflow : {n : ℕ} → over ≡ true → n ≡ over_at r.act → Out b limit s₀ p₀ m₀ s p m (e.Overflow n)
-      out_at_overflow o q z i =
-          let v = k.moment z i in
-          let x = plug_overflow (stack b p.frames at) (over_of t.stepped.went (sym told ∙ o)) in
-          (v, rw q (run_then_end v.run k.low (ends_overflow (rw (same b p m at t.parts) x))))
+    pub out_at_overflow : {n : ℕ} → r.act ≡ a.Over n → Out b limit s₀ p₀ m₀ s p m (e.Overflow n)
+    out_at_overflow o z i =
+        let v = k.moment z i in
+        let x = plug_overflow (stack b p.frames at) (over_of t.stepped.went o) in
+        (v, run_then_end v.run k.low (ends_overflow (rw (same b p m at t.parts) x)))
 
-      -- the act is made good: it is no overflow and within the limit, and its place is stored
-      module _ (o : over ≡ false) (l : r.to.steps ≤ limit) {h : ℕ} (grows : h ≡ grows_of r.act)
-          {fs : List Frame} (stored : fs ≡ set p.frames at (record { place = r.top })) where
-        abbrev p' : Pending
-        p' = record { frames = fs; height = at + h }
+    -- the act is made good: it is no overflow and within the limit
+    module _ (o : NoOverflow r.act) (l : r.to.steps ≤ limit) where
+      abbrev p' : Pending
+      p' = placed b p.frames at r.act
 
-        next_moment : {z s' : Store} → Moment b z s p m → s' ≡ written s r.act → Moment b z s' p' r.to
-        next_moment {z} i q =
-            let g = t.stepped in
-            let n = sym told ∙ o in
-            let run = subst (λ (x : Expr). Run m.steps m.loops (root_of b) z x s) (same b p m at t.parts) i.run in
-            let last = subst (λ (x : Expr). LastStep (root_of b) z m.steps x s m.rule) (same b p m at t.parts) i.last in
-            let (run', last') = moved (stack b p.frames at) run last g.went n in
-            let (seen', held', for) = kept_of g.went n in
-            let room = room_in i at t.parts in
-            let after = joined b p.frames at r.top room r.act (expr_of b r.to.work) n in
-            let p'' : Pending = record { frames = set p.frames at (record { place = r.top }); height = at + grows_of r.act } in
-            let on : Run r.to.steps r.to.loops (root_of b) z (meaning b p'' r.to) (written s r.act) = rw (after, g.steps, g.loops) run' in
-            rw (q, grows, stored)
-            (record {
-              runnable = i.runnable;
-              covered = i.covered;
-              run = on;
-              last = rw (after, g.steps, g.last) last';
-              seen = seen';
-              frames = length-set p.frames at _ ∙ i.frames;
-              room = room_after i.runnable p'' r.to at r.act refl (omega (arith, i.room, t.parts)) for on;
-              held = held_after b p.frames at r.top room r.act held' (λ j l. i.held j (omega (arith, t.parts)));
-            })
+      next_moment : {z : Store} → Moment b z s p m → Moment b z (written s r.act) p' r.to
+      next_moment {z} i =
+          let g = t.stepped in
+          let run = subst (λ (x : Expr). Run m.steps m.loops (root_of b) z x s) (same b p m at t.parts) i.run in
+          let last = subst (λ (x : Expr). LastStep (root_of b) z m.steps x s m.rule) (same b p m at t.parts) i.last in
+          let (run', last') = moved (stack b p.frames at) run last g.went o in
+          let (seen', held', for) = kept_of g.went o in
+          let room = room_in i at t.parts in
+          let after = joined b p.frames at room r.act (expr_of b r.to.work) in
+          let on : Run r.to.steps r.to.loops (root_of b) z (meaning b p' r.to) (written s r.act) = rw (after, g.steps, g.loops) run' in
+          record {
+            runnable = i.runnable;
+            covered = i.covered;
+            run = on;
+            last = rw (after, g.steps, g.last) last';
+            seen = seen';
+            frames = frames_after b p.frames at r.act ∙ i.frames;
+            room = room_after i.runnable p' r.to at r.act (height_after b p.frames at r.act) (omega (arith, i.room, t.parts)) for on;
+            held = held_after b p.frames at room r.act held' (λ j l. i.held j (omega (arith, t.parts)));
+          }
 
-        pub goes_on : {s' : Store} → s' ≡ written s r.act → Kept b limit s₀ p₀ m₀ s' p' r.to
-        goes_on q = record { moment = λ z i. next_moment (k.moment z i) q; low = l }
+      pub goes_on : {s' : Store} {p'' : Pending} → s' ≡ written s r.act → p'' ≡ p' → Kept b limit s₀ p₀ m₀ s' p'' r.to
+      goes_on q q' = rw (q, q') (record { moment = λ z i. next_moment (k.moment z i); low = l })
 
-        pub less_left : {z : Sizes} → Asked b limit s₀ p₀ m₀ z → left b limit p' r.to < left b limit p m
-        less_left a =
-            let g = t.stepped in
-            let i = here a in
-            let fits = rw (grows, stored) at (search_fits (next_moment i refl)) in
-            let before = search_split b p.frames at m.work p.height t.parts in
-            rw (grows, stored) (falls b p.frames at (room_in i at t.parts) m.steps before fits g.went g.steps l (sym told ∙ o))
+      pub less_left : {p'' : Pending} → p'' ≡ p' → Asked b limit s₀ p₀ m₀ → left b limit p'' r.to < left b limit p m
+      less_left q a =
+          let g = t.stepped in
+          let i = here a in
+          let fits = search_fits (next_moment i) in
+          let before = search_split b p.frames at m.work p.height t.parts in
+          rw q (falls b p.frames at (room_in i at t.parts) m.steps before fits g.went g.steps l o)

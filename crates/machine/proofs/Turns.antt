@@ -2,52 +2,43 @@
 use Prim.Native.Nat.{ℕ, zero, suc, ◌+◌, ◌-◌, ◌*◌, ◌≤◌, ◌<◌}
 use native.Mathlib.Nat.{add-zero}
 use native.Mathlib.Omega.{arith}
-use mathlib.Core.Path.{◌≡◌, refl, sym, ap}
-use mathlib.Core.Bool.{true, false}
+use mathlib.Core.Path.{◌≡◌, refl, sym, ap, subst}
 use mathlib.Core.List.{List, ◌∷◌}
-use lib.ListN.{length, get_or, set}
+use lib.ListN.{length, get_or, set, length-set}
 use lib.Seq.{get_or-set_same, get_or-set_other}
 use borrow.Author.Count.{below_more}
-use Rattle.l1.proofs.Clash.{clash}
+use Rattle.std.specs.Prelude.{Option}
 use Rattle.l1.specs.Syntax.{Expr}
 use Rattle.l1.specs.Store.{Store}
-use Rattle.l1.specs.Steps.{Rule, by_plus, by_geq, by_deref, by_assign, by_seq, by_if_true, by_if_false, by_while, ⟨◌∣◌⟩⟶⟨◌∣◌⟩◌}
+use Rattle.l1.specs.Steps.{Rule, ⟨◌∣◌⟩⟶⟨◌∣◌⟩◌}
 use Rattle.l1.specs.Overflow.{◌overflows_at◌}
-use Rattle.l1.specs.Run.{whiles, Run}
+use Rattle.l1.specs.Run.{Run}
 use Rattle.l1.specs.Measures.{size}
 use Rattle.l1.proofs.Runs.{run_keeps_locations, run_then_step}
 use Rattle.stored.specs.Reader.{tree_at}
 use Rattle.stored.specs.Refusals.{count}
 use Rattle.stored.proofs.Subtrees.{size_fits}
 use Rattle.routine.specs.Open.{root_of, Runnable}
-use Rattle.routine.proofs.Standing.{root_places, nodes_stand}
+use Rattle.routine.proofs.Standing.{is_headed, root_places, nodes_stand}
 use Rattle.machine.specs.Contexts.{Context, plug, left_to_search, all_left}
 use Rattle.machine.specs.State.{expr_of, Seen, search_of, takes_of, context_of, Held, redex, HeldUnder, search_at, blank, stack}
 use Rattle.machine.specs.Moment.{meaning, LastStep, last_step, Moment}
-use Rattle.machine.specs.Acts.{after, HeldBy, PushedFor, grows_of, is_over, over_at, written, Within, rule_no, made_by, turned_by, last_rule, Went, searched, worked, over}
+use Rattle.machine.specs.Acts.{after, HeldBy, PushedFor, grows_of, written, Within, rule_of, made_by, turned_by, last_rule, Went, searched, worked, over}
 use Rattle.machine.specs.declared.state.Work.{Work}
 use Rattle.machine.specs.declared.state.Work.TheVariants as w
 use Rattle.machine.specs.declared.state.Place.{Place}
 use Rattle.machine.specs.declared.state.Place.TheVariants as p
 use Rattle.machine.specs.declared.state.Act.{Act}
 use Rattle.machine.specs.declared.state.Act.TheVariants as a
+use Rattle.machine.specs.declared.state.Rule.{Rule as Named}
 use Rattle.machine.specs.declared.state.Frame.{Frame}
 use Rattle.machine.specs.declared.state.Pending.{Pending}
 use Rattle.machine.specs.declared.state.Machine.{Machine}
 use Rattle.machine.proofs.Stacks.{plug_step, stack_fits}
-use Rattle.machine.proofs.NodeActs.{few_nodes}
 
--- ---- the counts of a rule
-
-rule_counts : (r : Rule) → (made_by (rule_no r) ≡ 1) × (turned_by (rule_no r) ≡ whiles r) × ((x : ℕ) → last_rule (rule_no r) x ≡ rule_no r)
-rule_counts by_plus = (refl, refl, λ x. refl)
-rule_counts by_geq = (refl, refl, λ x. refl)
-rule_counts by_deref = (refl, refl, λ x. refl)
-rule_counts by_assign = (refl, refl, λ x. refl)
-rule_counts by_seq = (refl, refl, λ x. refl)
-rule_counts by_if_true = (refl, refl, λ x. refl)
-rule_counts by_if_false = (refl, refl, λ x. refl)
-rule_counts by_while = (refl, refl, λ x. refl)
+-- an act that is no overflow
+abbrev pub NoOverflow : Act → Type 0
+NoOverflow d = (i : ℕ) → d ≡ a.Over i → ⊥
 
 -- ---- the places
 
@@ -84,86 +75,89 @@ module _ (b : List ℕ) (fs : List Frame) (at : ℕ) where
   stands (w.Bool t) h e all = all at (omega arith)
   stands w.Skip h e all = all at (omega arith)
 
-  -- the places after an act
-  module _ (g : Place) (room : at < length fs) where
-    abbrev fs' : List Frame
-    fs' = set fs at (record { place = g })
+  -- the places after an act: one more on top, or those below it
+  abbrev pub placed : Act → Pending
+  placed (a.Push g) = record { frames = set fs at (record { place = g }); height = at + 1 }
+  placed a.Rest = record { frames = fs; height = at }
+  placed (a.Write k v) = record { frames = fs; height = at }
+  placed (a.Over i) = record { frames = fs; height = at }
 
-    same_below : stack b fs' at ≡ stack b fs at
-    same_below = stack_set b fs (record { place = g }) at at (omega arith)
+  pub height_after : (d : Act) → (placed d).height ≡ at + grows_of d
+  height_after (a.Push g) = refl
+  height_after a.Rest = sym (add-zero at)
+  height_after (a.Write k v) = sym (add-zero at)
+  height_after (a.Over i) = sym (add-zero at)
 
-    one_more : stack b fs' (at + 1) ≡ context_of b g ∷ stack b fs at
-    one_more = let z : at + 1 ≡ suc at = omega arith in rw (z, get_or-set_same fs at (record { place = g }) blank room, same_below)
+  pub frames_after : (d : Act) → length (placed d).frames ≡ length fs
+  frames_after (a.Push g) = length-set fs at _
+  frames_after a.Rest = refl
+  frames_after (a.Write k v) = refl
+  frames_after (a.Over i) = refl
 
-    pub joined : (d : Act) (e : Expr) → is_over d ≡ false → plug (stack b fs' (at + grows_of d)) e ≡ plug (stack b fs at) (after b d g e)
-    joined a.Push e n = rw one_more
-    joined a.Rest e n = rw (add-zero at, same_below)
-    joined (a.Write k v) e n = rw (add-zero at, same_below)
-    joined (a.Over i) e n = clash (sym n)
+  module _ (room : at < length fs) where
+    one_more : (g : Place) → stack b (set fs at (record { place = g })) (at + 1) ≡ context_of b g ∷ stack b fs at
+    one_more g =
+        let z : at + 1 ≡ suc at = omega arith in
+        rw (z, get_or-set_same fs at (record { place = g }) blank room, stack_set b fs (record { place = g }) at at (omega arith))
 
-    search_joined : all_left (stack b fs' (at + 1)) ≡ left_to_search (context_of b g) + all_left (stack b fs at)
-    search_joined = rw one_more
+    pub joined : (d : Act) (e : Expr) → plug (stack b (placed d).frames (placed d).height) e ≡ plug (stack b fs at) (after b d e)
+    joined (a.Push g) e = rw (one_more g)
+    joined a.Rest e = refl
+    joined (a.Write k v) e = refl
+    joined (a.Over i) e = refl
 
-    pub held_after : (d : Act) → HeldBy b d g → ((j : ℕ) → j < at → Held b (get_or fs j blank).place)
-        → (j : ℕ) → j < at + grows_of d → Held b (get_or fs' j blank).place
-    held_after d h all = by_act d h
-      where
-        below : (j : ℕ) → j < at → Held b (get_or fs' j blank).place
-        below j l = rw (get_or-set_other fs at j (record { place = g }) blank (λ q. omega arith)) (all j l)
+    search_joined : (g : Place) → all_left (stack b (set fs at (record { place = g })) (at + 1)) ≡ left_to_search (context_of b g) + all_left (stack b fs at)
+    search_joined g = rw (one_more g)
 
-        by_act : (d : Act) → HeldBy b d g → (j : ℕ) → j < at + grows_of d → Held b (get_or fs' j blank).place
-        by_act a.Push h =
-            below_more (λ (j : ℕ). Held b (get_or fs' j blank).place) at below (rw (get_or-set_same fs at (record { place = g }) blank room) h)
-        by_act a.Rest h = λ j l. below j (omega arith)
-        by_act (a.Write k v) h = λ j l. below j (omega arith)
-        by_act (a.Over i) h = absurd h
+    pub held_after : (d : Act) → HeldBy b d → ((j : ℕ) → j < at → Held b (get_or fs j blank).place)
+        → (j : ℕ) → j < (placed d).height → Held b (get_or (placed d).frames j blank).place
+    held_after (a.Push g) h all =
+        below_more (λ (j : ℕ). Held b (get_or (set fs at (record { place = g })) j blank).place) at
+        (λ j l. rw (get_or-set_other fs at j (record { place = g }) blank (λ q. omega arith)) (all j l))
+        (rw (get_or-set_same fs at (record { place = g }) blank room) h)
+    held_after a.Rest h all = all
+    held_after (a.Write k v) h all = all
+    held_after (a.Over i) h all = absurd h
 
 -- ---- what an act tells
 
-held_over : (b : List ℕ) {e : Expr} (d : Act) (g : Place) → HeldBy b d g → is_over d ≡ true → e overflows_at over_at d
-held_over b a.Push g h o = clash o
-held_over b a.Rest g h o = clash o
-held_over b (a.Write l n) g h o = clash o
-held_over b (a.Over i) g h o = absurd h
-
 module _ {b : List ℕ} {c : ℕ} {e : Expr} {s : Store} where
-  pub over_of : {y : Work} {d : Act} {g : Place} {ρ : ℕ} → Went b c e s y d g ρ → is_over d ≡ true → e overflows_at over_at d
-  over_of (searched q v h f l) o = clash o
-  over_of (worked {d = d} {g = g} x v h f i) o = held_over b d g h o
-  over_of (over x) o = x
+  pub over_of : {y : Work} {d : Act} {ρ : Option Named} {i : ℕ} → Went b c e s y d ρ → d ≡ a.Over i → e overflows_at i
+  over_of (searched q v h f l) o = cc
+  over_of (worked x v h f i) o = absurd (subst (HeldBy b) o h)
+  over_of {i = i} (over {n = n} x) o = let q : n ≡ i = cc in rw (← q) x
 
-  pub step_of : {y : Work} {d : Act} {g : Place} {ρ : ℕ} → Went b c e s y d g ρ → 0 < made_by ρ
+  pub step_of : {y : Work} {d : Act} {ρ : Option Named} → Went b c e s y d ρ → 0 < made_by ρ
       → (r : Rule) × (e' : Expr) × (s' : Store) × (⟨ e ∣ s ⟩⟶⟨ e' ∣ s' ⟩ r)
   step_of (searched q v h f l) o = absurd (omega arith)
-  step_of (worked {r = r} x v h f i) o = (r, _, _, x)
+  step_of (worked {ρ = ρ} x v h f i) o = (rule_of ρ, _, _, x)
   step_of (over x) o = absurd (omega arith)
 
-  pub within_of : {y : Work} {d : Act} {g : Place} {ρ : ℕ} → Went b c e s y d g ρ → Within (length s) d
+  pub within_of : {y : Work} {d : Act} {ρ : Option Named} → Went b c e s y d ρ → Within (length s) d
   within_of (searched q v h f l) = tt
   within_of (worked x v h f i) = i
   within_of (over x) = tt
 
-  pub one_at_most : {y : Work} {d : Act} {g : Place} {ρ : ℕ} → Went b c e s y d g ρ → made_by ρ ≤ 1
+  pub one_at_most : {y : Work} {d : Act} {ρ : Option Named} → Went b c e s y d ρ → made_by ρ ≤ 1
   one_at_most (searched q v h f l) = omega arith
-  one_at_most (worked {r = r} x v h f i) = omega (arith, (rule_counts r).0)
+  one_at_most (worked x v h f i) = omega arith
   one_at_most (over x) = omega arith
 
-  pub kept_of : {y : Work} {d : Act} {g : Place} {ρ : ℕ} → Went b c e s y d g ρ → is_over d ≡ false → Seen b y × HeldBy b d g × PushedFor b d y
+  pub kept_of : {y : Work} {d : Act} {ρ : Option Named} → Went b c e s y d ρ → NoOverflow d → Seen b y × HeldBy b d × PushedFor b d y
   kept_of (searched q v h f l) o = (v, h, f)
   kept_of (worked x v h f i) o = (v, h, f)
-  kept_of (over x) o = clash (sym o)
+  kept_of (over x) o = absurd (o _ refl)
 
   -- the run goes on, and its last step is the act's where the act is a step; a move of the search leaves the expression as it was
-  pub moved : {e₀ : Expr} {s₀ : Store} {T K ρ last : ℕ} {y : Work} {d : Act} {g : Place} (k : List Context)
-      → Run T K e₀ s₀ (plug k e) s → LastStep e₀ s₀ T (plug k e) s last → Went b c e s y d g ρ → is_over d ≡ false
-      → Run (T + made_by ρ) (K + turned_by ρ) e₀ s₀ (plug k (after b d g (expr_of b y))) (written s d)
-      × LastStep e₀ s₀ (T + made_by ρ) (plug k (after b d g (expr_of b y))) (written s d) (last_rule ρ last)
+  pub moved : {e₀ : Expr} {s₀ : Store} {T K : ℕ} {ρ last : Option Named} {y : Work} {d : Act} (k : List Context)
+      → Run T K e₀ s₀ (plug k e) s → LastStep e₀ s₀ T (plug k e) s last → Went b c e s y d ρ → NoOverflow d
+      → Run (T + made_by ρ) (K + turned_by ρ) e₀ s₀ (plug k (after b d (expr_of b y))) (written s d)
+      × LastStep e₀ s₀ (T + made_by ρ) (plug k (after b d (expr_of b y))) (written s d) (last_rule ρ last)
   moved {T = T} {K = K} k ds l (searched q v h f n) o = rw (add-zero T, add-zero K, q) (ds, l)
-  moved {T = T} {last = last} k ds l (worked {r = r} x v h f i) o =
-      let (one, turns, is_last) = rule_counts r in
+  moved {T = T} k ds l (worked {ρ = ρ} x v h f i) o =
       let d = plug_step k x in
-      (rw (one, turns) (run_then_step ds d), last_step {T' = T} (omega arith) ds d (is_last last))
-  moved k ds l (over x) o = clash (sym o)
+      (run_then_step ds d, last_step {T' = T} (omega arith) ds d refl)
+  moved k ds l (over x) o = absurd (o _ refl)
 
 -- ---- what is left: the steps, and then the search
 
@@ -178,19 +172,19 @@ abbrev pub left : List ℕ → ℕ → Pending → Machine → ℕ
 left b limit p m = (limit - m.steps) * room_of_search + search_left b p m
 
 pub falls : (b : List ℕ) (fs : List Frame) (at : ℕ) → at < length fs
-    → (T : ℕ) {c T' R limit ρ : ℕ} {e : Expr} {s : Store} {y : Work} {d : Act} {g : Place}
+    → (T : ℕ) {c T' R limit : ℕ} {ρ : Option Named} {e : Expr} {s : Store} {y : Work} {d : Act}
     → R ≡ all_left (stack b fs at) + c
-    → all_left (stack b (set fs at (record { place = g })) (at + grows_of d)) + search_of b y < room_of_search
-    → Went b c e s y d g ρ → T' ≡ T + made_by ρ → T' ≤ limit → is_over d ≡ false
-    → (limit - T') * room_of_search + (all_left (stack b (set fs at (record { place = g })) (at + grows_of d)) + search_of b y)
+    → all_left (stack b (placed b fs at d).frames (placed b fs at d).height) + search_of b y < room_of_search
+    → Went b c e s y d ρ → T' ≡ T + made_by ρ → T' ≤ limit → NoOverflow d
+    → (limit - T') * room_of_search + (all_left (stack b (placed b fs at d).frames (placed b fs at d).height) + search_of b y)
     < (limit - T) * room_of_search + R
-falls b fs at room T q n (searched {g = g} x v h f l) t u o = omega (arith, search_joined b fs at g room)
-falls b fs at room T q n (worked {r = r} x v h f i) t u o = omega (arith, (rule_counts r).0)
-falls b fs at room T q n (over x) t u o = clash (sym o)
+falls b fs at room T q n (searched {g = g} x v h f l) t u o = omega (arith, search_joined b fs at room g)
+falls b fs at room T q n (worked x v h f i) t u o = omega arith
+falls b fs at room T q n (over x) t u o = absurd (o _ refl)
 
 module _ {b : List ℕ} (ok : Runnable b) where
   node_size : (i : ℕ) → i < count b → size (tree_at b i) ≤ 4096
-  node_size i l = omega (arith, few_nodes ok, size_fits b (nodes_stand ok.opens ok.holds i l))
+  node_size i l = omega (arith, (is_headed ok.opens ok.holds).few_nodes, size_fits b (nodes_stand ok.opens ok.holds i l))
 
   place_search : (f : Place) → Held b f → left_to_search (context_of b f) ≤ 8193
   place_search p.Blank h = absurd h
@@ -222,8 +216,8 @@ takes_one (w.Int n) = omega arith
 takes_one (w.Bool t) = omega arith
 takes_one w.Skip = omega arith
 
-pub grows_by_one : (d : Act) → grows_of d ≤ 1
-grows_by_one a.Push = omega arith
+grows_by_one : (d : Act) → grows_of d ≤ 1
+grows_by_one (a.Push g) = omega arith
 grows_by_one a.Rest = omega arith
 grows_by_one (a.Write l n) = omega arith
 grows_by_one (a.Over i) = omega arith

@@ -1,5 +1,5 @@
--- What a value in the place on top comes to, by the place; and the act of a work that is a node or a value.
-use Prim.Native.Nat.{ℕ, ◌*◌, ◌≤◌, ◌<◌}
+-- What a value in the place on top comes to, by the place.
+use Prim.Native.Nat.{ℕ, ◌≤◌, ◌<◌}
 use native.Mathlib.Omega.{arith}
 use mathlib.Core.Path.{◌≡◌, refl, sym, subst}
 use mathlib.Core.Bool.{Bool, true, false}
@@ -7,25 +7,24 @@ use mathlib.Core.List.{List}
 use lib.IntN.{ℤ}
 use lib.ListN.{length}
 use lib.Signed.{le_z}
+use Rattle.std.specs.Prelude.{Some}
 use Rattle.l1.specs.Syntax.{Op, Expr, int, bool, ◌‹◌#◌›◌, if◌then'◌else◌, ◌:=◌, skip, ◌⨾◌, Ty, ty_int, ty_bool, ty_unit}
 use Rattle.l1.specs.Store.{Store}
 use Rattle.l1.specs.Typing.{TypeEnv, ◌⊢◌∶◌, t_op+, t_op≥, t_if, t_assign, t_seq}
-use Rattle.l1.specs.Steps.{by_geq, by_assign, by_seq, by_if_true, by_if_false, op≥, assign1, seq1, if1, if2}
-use Rattle.l1.specs.Measures.{size}
-use Rattle.stored.specs.Layout.{kind, child2, child3}
+use Rattle.l1.specs.Steps.{op≥, assign1, seq1, if1, if2}
+use Rattle.stored.specs.Layout.{child2, child3}
 use Rattle.stored.specs.Reader.{tree_at}
-use Rattle.stored.specs.Refusals.{locations, count, env}
-use Rattle.routine.specs.Forms.{form_of}
-use Rattle.routine.specs.declared.Sizes.{Sizes}
-use Rattle.routine.specs.Open.{SizesOf, Runnable}
+use Rattle.stored.specs.Refusals.{locations, env}
+use Rattle.routine.specs.Open.{Opened}
 use Rattle.machine.specs.Contexts.{Context, in_op1, in_op2, fill, left_to_search}
-use Rattle.machine.specs.State.{expr_of, Busy, Seen, takes_of, node_of, number_of, truth_of, context_of, Held, redex, HeldUnder, search_at}
+use Rattle.machine.specs.State.{expr_of, takes_of, number_of, truth_of, context_of, Held}
 use Rattle.machine.specs.Acts.{searched, worked, Gone, Sought, went_down, read_there, Summed}
 use Rattle.machine.specs.declared.state.Work.{Work}
 use Rattle.machine.specs.declared.state.Work.TheVariants as w
 use Rattle.machine.specs.declared.state.Place.{Place}
 use Rattle.machine.specs.declared.state.Place.TheVariants as p
 use Rattle.machine.specs.declared.state.Act.TheVariants as a
+use Rattle.machine.specs.declared.state.Rule.TheVariants as named
 use Rattle.machine.specs.declared.state.Turn.{Turn}
 use Rattle.machine.proofs.Stacks.{asks, part_typed}
 use Rattle.machine.proofs.NodeActs.{Turned, to_node, no_deref_unit, pushed_for, reads_there, CameTo, came_to}
@@ -67,7 +66,6 @@ typed_value b ty_unit w.Skip h t = refl
 
 -- the value y fills the place f, and its type is the one that the place asks for
 pub record Filled (b : List ℕ) (f : Place) (y : Work) : Type 0 where
-  pub runnable : Runnable b
   pub held : Held b f
   pub type : Ty
   pub typed : env b ⊢ fill (context_of b f) (expr_of b y) ∶ type
@@ -78,28 +76,28 @@ abbrev pub Comes : List ℕ → Place → Work → Store → Turn → Type 0
 Comes b f y s t = Turned b (left_to_search (context_of b f)) (fill (context_of b f) (expr_of b y)) s t
 
 -- where the place f is known to be g
-pub in_place : (b : List ℕ) (y : Work) {f g : Place} {s : Store} {t : Turn} {z : Sizes}
-    → f ≡ g → Runnable b × (takes_of y ≡ 1) × Held b f × (locations b ≤ length s) × ((T : Ty) × (env b ⊢ fill (context_of b f) (expr_of b y) ∶ T)) × SizesOf b z
+pub in_place : (b : List ℕ) (y : Work) {f g : Place} {s : Store} {t : Turn}
+    → f ≡ g → (takes_of y ≡ 1) × Held b f × (locations b ≤ length s) × ((T : Ty) × (env b ⊢ fill (context_of b f) (expr_of b y) ∶ T))
     → (Filled b g y → Comes b g y s t)
     → Comes b f y s t
-in_place b y {f} {s = s} {t = t} q (ok, one, held, covered, (T, typed), sizes) comes =
+in_place b y {f} {s = s} {t = t} q (one, held, covered, (T, typed)) comes =
     let value = typed_value b (asks (context_of b f)) y one (part_typed (context_of b f) typed) in
-    let filled : Filled b f y = record { runnable = ok; held = held; type = T; typed = typed; value = value } in
+    let filled : Filled b f y = record { held = held; type = T; typed = typed; value = value } in
     subst (λ (g : Place). Comes b g y s t) (sym q) (comes (subst (λ (g : Place). Filled b g y) q filled))
 
 module _ {b : List ℕ} {y : Work} {s : Store} {t : Turn} where
   -- the search goes from the left operand to the right
   pub across : {f g : Place} {i j : ℕ} {o : Op}
-      → Filled b f y → context_of b f ≡ in_op1 i o (tree_at b j) → context_of b g ≡ in_op2 i o (number_of y) → Held b g → Sought b s j g t
+      → Opened b → Filled b f y → context_of b f ≡ in_op1 i o (tree_at b j) → context_of b g ≡ in_op2 i o (number_of y) → Held b g → Sought b s j g t
       → Comes b f y s t
-  across {f} {g} v q q' held (went_down other gone) =
+  across {f} {g} ok v q q' held (went_down other gone) =
       let z : expr_of b y ≡ int (number_of y) = rw q at v.value in
       let same : fill (context_of b g) (expr_of b t.work) ≡ fill (context_of b f) (expr_of b y) = rw (q, q', z, gone.loaded.same) in
-      rw (gone.act, gone.top, gone.rule)
-      (searched {y = t.work} {g = g} same gone.loaded.seen held (pushed_for v.runnable t.work gone.loaded other) (rw (q, q') (omega (arith, gone.loaded.search))))
-  across {f} {g} v q q' held (read_there tree h work act top rule) =
+      rw (gone.act, gone.rule)
+      (searched {y = t.work} {g = g} same gone.loaded.seen held (pushed_for ok t.work g gone.loaded other) (rw (q, q') (omega (arith, gone.loaded.search))))
+  across {f} {g} ok v q q' held (read_there tree h work act rule) =
       let z : expr_of b y ≡ int (number_of y) = rw q at v.value in
-      reads_there (rw (q, q', z, tree) refl) h held work act top rule
+      reads_there (rw (q, q', z, tree) refl) h held work act rule
 
   pub adds : {i : ℕ} {n n₁ n₂ : ℤ}
       → Filled b (p.PlusRight i n) y → n₁ ≡ n → n₂ ≡ number_of y → Summed i n₁ n₂ t
@@ -107,73 +105,39 @@ module _ {b : List ℕ} {y : Work} {s : Store} {t : Turn} where
   adds v q₁ q₂ sum = rw (v.value, ← q₁, ← q₂) (sum.went b 0 s)
 
   pub compares : {i : ℕ} {n n₁ n₂ : ℤ} {u : Bool}
-      → Filled b (p.GeqRight i n) y → n₁ ≡ n → n₂ ≡ number_of y → u ≡ le_z n₂ n₁ → CameTo (w.Bool u) a.Rest 2 t
+      → Filled b (p.GeqRight i n) y → n₁ ≡ n → n₂ ≡ number_of y → u ≡ le_z n₂ n₁ → CameTo (w.Bool u) a.Rest (Some named.Geq) t
       → Comes b (p.GeqRight i n) y s t
   compares {u = u} v q₁ q₂ q came =
-      came_to came (worked {r = by_geq} {y = w.Bool u} {d = a.Rest} {g = p.Blank} (rw (v.value, ← q₁, ← q₂) (op≥ q)) tt tt (omega arith) tt)
+      came_to came (worked {ρ = named.Geq} {y = w.Bool u} {d = a.Rest} (rw (v.value, ← q₁, ← q₂) (op≥ q)) tt tt (omega arith) tt)
 
-  pub chooses_true : {i : ℕ} → Filled b (p.Test i) y → truth_of y ≡ true → Gone b (child2 b i) a.Rest p.Blank 6 t → Comes b (p.Test i) y s t
-  chooses_true v q gone = to_node {r = by_if_true} {d = a.Rest} {g = p.Blank} (rw (v.value, q) if1) tt (omega arith) tt gone
+  pub chooses_true : {i : ℕ} → Filled b (p.Test i) y → truth_of y ≡ true → Gone b (child2 b i) a.Rest (Some named.IfTrue) t → Comes b (p.Test i) y s t
+  chooses_true v q gone = to_node {ρ = named.IfTrue} {d = a.Rest} (rw (v.value, q) if1) tt (omega arith) tt gone
 
-  pub chooses_false : {i : ℕ} → Filled b (p.Test i) y → truth_of y ≡ false → Gone b (child3 b i) a.Rest p.Blank 7 t → Comes b (p.Test i) y s t
-  chooses_false v q gone = to_node {r = by_if_false} {d = a.Rest} {g = p.Blank} (rw (v.value, q) if2) tt (omega arith) tt gone
+  pub chooses_false : {i : ℕ} → Filled b (p.Test i) y → truth_of y ≡ false → Gone b (child3 b i) a.Rest (Some named.IfFalse) t → Comes b (p.Test i) y s t
+  chooses_false v q gone = to_node {ρ = named.IfFalse} {d = a.Rest} (rw (v.value, q) if2) tt (omega arith) tt gone
 
   -- a loop's test
-  pub repeats : {i : ℕ} → Filled b (p.Again i) y → truth_of y ≡ true → Gone b (child2 b i) a.Push (p.First i) 6 t → Comes b (p.Again i) y s t
-  repeats {i} v q gone =
-      let for = pushed_for v.runnable t.work gone.loaded (no_deref_unit (body_typed v.typed)) in
-      to_node {r = by_if_true} {d = a.Push} {g = p.First i} (rw (v.value, q) if1) v.held.0 for tt gone
+  pub repeats : {i : ℕ} → Opened b → Filled b (p.Again i) y → truth_of y ≡ true → Gone b (child2 b i) (a.Push (p.First i)) (Some named.IfTrue) t → Comes b (p.Again i) y s t
+  repeats {i} ok v q gone =
+      let for = pushed_for ok t.work (p.First i) gone.loaded (no_deref_unit (body_typed v.typed)) in
+      to_node {ρ = named.IfTrue} {d = a.Push (p.First i)} (rw (v.value, q) if1) v.held.0 for tt gone
 
-  pub leaves : {i : ℕ} → Filled b (p.Again i) y → truth_of y ≡ false → CameTo w.Skip a.Rest 7 t → Comes b (p.Again i) y s t
-  leaves v q came = came_to came (worked {r = by_if_false} {y = w.Skip} {d = a.Rest} {g = p.Blank} (rw (v.value, q) if2) tt tt (omega arith) tt)
+  pub leaves : {i : ℕ} → Filled b (p.Again i) y → truth_of y ≡ false → CameTo w.Skip a.Rest (Some named.IfFalse) t → Comes b (p.Again i) y s t
+  leaves v q came = came_to came (worked {ρ = named.IfFalse} {y = w.Skip} {d = a.Rest} (rw (v.value, q) if2) tt tt (omega arith) tt)
 
   pub stores : {l : ℕ} {n : ℤ}
-      → Filled b (p.Store l) y → locations b ≤ length s → n ≡ number_of y → CameTo w.Skip (a.Write l n) 4 t
+      → Filled b (p.Store l) y → locations b ≤ length s → n ≡ number_of y → CameTo w.Skip (a.Write l n) (Some named.Assign) t
       → Comes b (p.Store l) y s t
   stores {l} {n} v covered q came =
       let h : l < length s = omega (arith, assigned v.typed) in
-      came_to came (worked {r = by_assign} {y = w.Skip} {d = a.Write l n} {g = p.Blank} (rw (v.value, ← q) (assign1 h)) tt tt (omega arith) h)
+      came_to came (worked {ρ = named.Assign} {y = w.Skip} {d = a.Write l n} (rw (v.value, ← q) (assign1 h)) tt tt (omega arith) h)
 
-  pub goes_on : {j : ℕ} → Filled b (p.First j) y → Gone b j a.Rest p.Blank 5 t → Comes b (p.First j) y s t
-  goes_on v gone = to_node {r = by_seq} {d = a.Rest} {g = p.Blank} (rw v.value seq1) tt (omega arith) tt gone
+  pub goes_on : {j : ℕ} → Filled b (p.First j) y → Gone b j a.Rest (Some named.Seq) t → Comes b (p.First j) y s t
+  goes_on v gone = to_node {ρ = named.Seq} {d = a.Rest} (rw v.value seq1) tt (omega arith) tt gone
 
--- ---- the work: a node, or a value
-
-pub is_node : (y : Work) → takes_of y ≡ 0 → y ≡ w.Node (node_of y)
-is_node (w.Node i) q = refl
-is_node (w.Int n) q = absurd (omega arith)
-is_node (w.Bool u) q = absurd (omega arith)
-is_node w.Skip q = absurd (omega arith)
-
-pub is_value : (y : Work) → (takes_of y ≡ 0 → ⊥) → takes_of y ≡ 1
-is_value (w.Node i) q = absurd (q refl)
+-- a work that is no node is a value
+pub is_value : (y : Work) → ((i : ℕ) → y ≡ w.Node i → ⊥) → takes_of y ≡ 1
+is_value (w.Node i) q = absurd (q i refl)
 is_value (w.Int n) q = refl
 is_value (w.Bool u) q = refl
 is_value w.Skip q = refl
-
-module _ (b : List ℕ) (f : Place) where
-  -- what the act works on is the place with the value in it
-  pub as_value : (y : Work) → takes_of y ≡ 1 → HeldUnder b y f → ((T : Ty) × (env b ⊢ redex b y f ∶ T))
-      → Held b f × ((T : Ty) × (env b ⊢ fill (context_of b f) (expr_of b y) ∶ T))
-  as_value (w.Node i) q held typed = absurd (omega arith)
-  as_value (w.Int n) q held typed = (held, typed)
-  as_value (w.Bool u) q held typed = (held, typed)
-  as_value w.Skip q held typed = (held, typed)
-
-  pub from_value : (y : Work) {s : Store} {t : Turn} → takes_of y ≡ 1 → Comes b f y s t → Turned b (search_at b y f) (redex b y f) s t
-  from_value (w.Node i) q went = absurd (omega arith)
-  from_value (w.Int n) q went = went
-  from_value (w.Bool u) q went = went
-  from_value w.Skip q went = went
-
-  -- what the act works on is the node
-  pub as_node : {y : Work} {i : ℕ} → y ≡ w.Node i → Seen b y → ((T : Ty) × (env b ⊢ redex b y f ∶ T))
-      → (i < count b) × Busy (form_of (kind b i)) × ((T : Ty) × (env b ⊢ tree_at b i ∶ T))
-  as_node q seen typed =
-      let s = subst (Seen b) q seen in
-      (s.0, s.1, subst (λ (y : Work). (T : Ty) × (env b ⊢ redex b y f ∶ T)) q typed)
-
-  pub from_node : {y : Work} {i : ℕ} {s : Store} {t : Turn}
-      → y ≡ w.Node i → Turned b (2 * size (tree_at b i)) (tree_at b i) s t
-      → Turned b (search_at b y f) (redex b y f) s t
-  from_node {s = s} {t = t} q went = subst (λ (y : Work). Turned b (search_at b y f) (redex b y f) s t) (sym q) went

@@ -1,5 +1,5 @@
 -- What the machine's values mean: the work, the pending places and the endings.
-use Rattle.std.specs.Prelude.{ℕ, zero, suc, ◌*◌, ◌<◌, List, [], ◌∷◌, Bool, true, false, ℤ, pos, get_or}
+use Rattle.std.specs.Prelude.{ℕ, zero, suc, ◌*◌, ◌<◌, List, [], ◌∷◌, Bool, false, ℤ, pos, get_or}
 use Rattle.l1.specs.Syntax.{plus, geq, Expr, int, bool, skip, ◌⨾◌}
 use Rattle.l1.specs.Run.{Outcome, value, overflow, fuel}
 use Rattle.l1.specs.Measures.{size}
@@ -40,19 +40,6 @@ Busy Seq = Unit
 Busy While = Unit
 Busy Unknown = ⊥
 
-abbrev pub is_deref : Form → Bool
-is_deref Integer = false
-is_deref Boolean = false
-is_deref Plus = false
-is_deref Geq = false
-is_deref If = false
-is_deref Assign = false
-is_deref Deref = true
-is_deref Skip = false
-is_deref Seq = false
-is_deref While = false
-is_deref Unknown = false
-
 -- a work that is a node is a node of the routine and no literal
 abbrev pub Seen : List ℕ → Work → Type 0
 Seen b (w.Node i) = (i < count b) × Busy (form_of (kind b i))
@@ -72,12 +59,6 @@ takes_of (w.Node i) = 0
 takes_of (w.Int n) = 1
 takes_of (w.Bool t) = 1
 takes_of w.Skip = 1
-
-abbrev pub node_of : Work → ℕ
-node_of (w.Node i) = i
-node_of (w.Int n) = 0
-node_of (w.Bool t) = 0
-node_of w.Skip = 0
 
 abbrev pub number_of : Work → ℤ
 number_of (w.Node i) = pos 0

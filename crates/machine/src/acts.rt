@@ -1,7 +1,7 @@
 // One act of the machine: a move of the search for the next place of work, a step of the rules, or a sum out of range.
 //
 // `seek` tells three cases of an operand apart, which needs no table of jumps, where `load` has four: docs/PERFORMANCE.md says what this gives.
-ghost use Rattle.std.specs.Prelude.{◌≡◌, ◌*◌, ◌<◌, ◌≤◌, length};
+ghost use Rattle.std.specs.Prelude.{◌≡◌, Some, ◌*◌, ◌<◌, ◌≤◌, length};
 ghost use Rattle.l1.specs.Syntax.{Ty, ty_int};
 ghost use Rattle.l1.specs.Typing.{◌⊢◌∶◌};
 ghost use Rattle.l1.specs.Measures.{size};
@@ -9,202 +9,106 @@ ghost use Rattle.stored.specs.Layout.{kind};
 ghost use Rattle.stored.specs.Reader.{tree_at};
 ghost use Rattle.stored.specs.Refusals.{locations, count, env};
 ghost use Rattle.routine.specs.Forms.{form_of};
-ghost use Rattle.routine.specs.Open.{SizesOf, Runnable};
 ghost use Rattle.machine.specs.Contexts.{fill, left_to_search};
-ghost use Rattle.machine.specs.State.{expr_of, Busy, is_deref, Seen, takes_of, context_of, Held, redex, HeldUnder, search_at};
+ghost use Rattle.machine.specs.State.{expr_of, Busy, Seen, takes_of, context_of, Held, redex, HeldUnder, search_at};
 ghost use Rattle.machine.specs.Acts.{made_by, turned_by, last_rule, Went, Stepped, Loaded, Gone, Sought, Summed};
 
-use crate::state::{Act, Machine, Next, Place, Turn, Work, node_of, number, takes, truth};
-use routine::{Form, Sizes};
-use sums::Sum;
-
-// The rules by numbers; 0 is a move of the search, which is no step.
-const SEARCH: u64 = 0;
-
-const PLUS: u64 = 1;
-
-const GEQ: u64 = 2;
-
-const DEREF: u64 = 3;
-
-const ASSIGN: u64 = 4;
-
-const SEQ: u64 = 5;
-
-const IF_TRUE: u64 = 6;
-
-const IF_FALSE: u64 = 7;
-
-const WHILE: u64 = 8;
-
-fn u32_of_u8(x: u8) -> u32
-    ensures { result ≡ x }
-{
-    x as u32
-}
+use crate::state::{Act, Machine, Next, Place, Rule, Turn, Work, number, truth};
+use routine::{Form, Routine};
 
 // 1 for a step, 0 for a move of the search.
-fn made(rule: u64) -> u64
+fn made(rule: Option<Rule>) -> u64
     ensures { (result ≡ made_by rule) × (result < 2) }
 {
-    if rule == SEARCH { 0 } else { 1 }
+    u64::from(rule.is_some())
 }
 
 // 1 for a step by `while`.
-fn turned(rule: u64) -> u64
+fn turned(rule: Option<Rule>) -> u64
     ensures { (result ≡ turned_by rule) × (result < 2) }
 {
-    if rule == WHILE { 1 } else { 0 }
+    u64::from(rule == Some(Rule::While))
 }
 
-fn last_rule(rule: u64, before: u64) -> u64
+fn last_rule(rule: Option<Rule>, before: Option<Rule>) -> Option<Rule>
     ensures { result ≡ last_rule rule before }
 {
-    if rule == SEARCH { before } else { rule }
+    rule.or(before)
 }
 
 // The work is the node c, or its value where it is a literal: a literal must be a value before the search goes on.
-pub fn load(b: &[u8], z: Sizes, c: u32) -> Work
-    requires { Runnable b.now × (c < count b.now) × SizesOf b.now z }
-    ensures { Loaded b.now c result }
+pub fn load(row: &Routine<'_>, c: u32) -> Work
+    requires { c < count row.now }
+    ensures { Loaded row.now c result }
 {
-    match routine::form_at(b, z, c) {
-        Form::Integer => Work::Int(routine::integer_at(b, z, c)),
-        Form::Boolean => Work::Bool(routine::arg_at(b, z, c) == 1),
-        Form::Skip => Work::Skip,
-        Form::Unknown => Work::Skip,
-        Form::Plus => Work::Node(c as u64),
-        Form::Geq => Work::Node(c as u64),
-        Form::If => Work::Node(c as u64),
-        Form::Assign => Work::Node(c as u64),
-        Form::Deref => Work::Node(c as u64),
-        Form::Seq => Work::Node(c as u64),
-        Form::While => Work::Node(c as u64),
+    match row.form(c) {
+        Form::Integer => Work::Int(row.integer(c)),
+        Form::Boolean => Work::Bool(row.arg(c) == 1),
+        Form::Skip | Form::Unknown => Work::Skip,
+        _ => Work::Node(c),
     }
 }
 
-fn is_deref(f: Form) -> bool
-    ensures { result ≡ is_deref f }
+// The turn of an act that leaves the work x.
+fn comes_to(x: Work, act: Act, rule: Option<Rule>) -> Turn
+    ensures { (result.work ≡ x) × (result.act ≡ act) × (result.rule ≡ rule) }
 {
-    match f {
-        Form::Integer => false,
-        Form::Boolean => false,
-        Form::Plus => false,
-        Form::Geq => false,
-        Form::If => false,
-        Form::Assign => false,
-        Form::Deref => true,
-        Form::Skip => false,
-        Form::Seq => false,
-        Form::While => false,
-        Form::Unknown => false,
-    }
-}
-
-// The work is x, under the place that is pushed.
-fn under(x: Work, top: Place, rule: u64) -> Turn
-    ensures { (result.work ≡ x) × (result.act ≡ Act.Push) × (result.top ≡ top) × (result.rule ≡ rule) }
-{
-    Turn {
-        work: x,
-        act: Act::Push,
-        top: top,
-        rule: rule,
-    }
+    Turn { work: x, act, rule }
 }
 
 // The work goes to the node c, under the place that is pushed.
-fn down(b: &[u8], z: Sizes, c: u32, top: Place, rule: u64) -> Turn
-    requires { Runnable b.now × (c < count b.now) × SizesOf b.now z }
-    ensures { Gone b.now c Act.Push top rule result }
+fn down(row: &Routine<'_>, c: u32, top: Place, rule: Option<Rule>) -> Turn
+    requires { c < count row.now }
+    ensures { Gone row.now c (Act.Push top) rule result }
 {
-    under(load(b, z, c), top, rule)
+    comes_to(load(row, c), Act::Push(top), rule)
 }
 
 // The work goes to the node c by a step that leaves no place of its own.
-fn leap(b: &[u8], z: Sizes, c: u32, rule: u64) -> Turn
-    requires { Runnable b.now × (c < count b.now) × SizesOf b.now z }
-    ensures { Gone b.now c Act.Rest Place.Blank rule result }
+fn leap(row: &Routine<'_>, c: u32, rule: Rule) -> Turn
+    requires { c < count row.now }
+    ensures { Gone row.now c Act.Rest (Some rule) result }
 {
-    Turn {
-        work: load(b, z, c),
-        act: Act::Rest,
-        top: Place::Blank,
-        rule: rule,
-    }
+    comes_to(load(row, c), Act::Rest, Some(rule))
 }
 
-// What `load` gives for an operand, which has the type int and so is no other literal.
-fn operand(b: &[u8], z: Sizes, c: u32) -> Work
-    requires { Runnable b.now × (c < count b.now) × (env b.now ⊢ tree_at b.now c ∶ ty_int) × SizesOf b.now z }
-    ensures { Loaded b.now c result }
+// The search goes to the operand c, and reads it at once where it is a dereference: the step that the search would come to next. An operand has the
+// type int, and so is no other literal than an integer.
+fn seek(row: &Routine<'_>, s: &[i32], c: u32, top: Place) -> Turn
+    requires { (c < count row.now) × (locations row.now ≤ length s.now) × (env row.now ⊢ tree_at row.now c ∶ ty_int) }
+    ensures { Sought row.now s.now c top result }
 {
-    match routine::form_at(b, z, c) {
-        Form::Integer => Work::Int(routine::integer_at(b, z, c)),
-        Form::Boolean => Work::Node(c as u64),
-        Form::Skip => Work::Node(c as u64),
-        Form::Unknown => Work::Node(c as u64),
-        Form::Plus => Work::Node(c as u64),
-        Form::Geq => Work::Node(c as u64),
-        Form::If => Work::Node(c as u64),
-        Form::Assign => Work::Node(c as u64),
-        Form::Deref => Work::Node(c as u64),
-        Form::Seq => Work::Node(c as u64),
-        Form::While => Work::Node(c as u64),
-    }
-}
-
-// The search goes to the operand c, and reads it at once where it is a dereference: the step that the search would come to next.
-fn seek(b: &[u8], z: Sizes, s: &[i32], c: u32, top: Place) -> Turn
-    requires { Runnable b.now × (c < count b.now) × (locations b.now ≤ length s.now) × (env b.now ⊢ tree_at b.now c ∶ ty_int) × SizesOf b.now z }
-    ensures { Sought b.now s.now c top result }
-{
-    if is_deref(routine::form_at(b, z, c)) {
-        let l = routine::usize_of_u8(routine::arg_at(b, z, c));
-        under(Work::Int(s[l]), top, DEREF)
-    } else {
-        under(operand(b, z, c), top, SEARCH)
-    }
-}
-
-// The work is a value, and no place is pushed.
-fn comes_to(x: Work, act: Act, rule: u64) -> Turn
-    ensures { (result.work ≡ x) × (result.act ≡ act) × (result.top ≡ Place.Blank) × (result.rule ≡ rule) }
-{
-    Turn {
-        work: x,
-        act: act,
-        top: Place::Blank,
-        rule: rule,
+    match row.form(c) {
+        Form::Deref => {
+            let l = usize::from(row.arg(c));
+            comes_to(Work::Int(s[l]), Act::Push(top), Some(Rule::Deref))
+        }
+        Form::Integer => comes_to(Work::Int(row.integer(c)), Act::Push(top), None),
+        _ => comes_to(Work::Node(c), Act::Push(top), None),
     }
 }
 
 // A node that is no literal: the search goes to its first part, but a dereference and a while make a step.
-fn at_node(b: &[u8], z: Sizes, s: &[i32], i: u32) -> Turn
-    requires { Runnable b.now × (i < count b.now) × Busy (form_of (kind b.now i)) × (locations b.now ≤ length s.now) × ((T : Ty) × (env b.now ⊢ tree_at b.now i ∶ T)) × SizesOf b.now z }
-    ensures { Went b.now (2 * size (tree_at b.now i)) (tree_at b.now i) s.now result.work result.act result.top result.rule }
+fn at_node(row: &Routine<'_>, s: &[i32], i: u32) -> Turn
+    requires { (i < count row.now) × Busy (form_of (kind row.now i)) × (locations row.now ≤ length s.now) × ((T : Ty) × (env row.now ⊢ tree_at row.now i ∶ T)) }
+    ensures { Went row.now (2 * size (tree_at row.now i)) (tree_at row.now i) s.now result.work result.act result.rule }
 {
-    match routine::form_at(b, z, i) {
-        Form::Plus => seek(b, z, s, routine::first_at(b, z, i), Place::PlusLeft(i)),
-        Form::Geq => seek(b, z, s, routine::first_at(b, z, i), Place::GeqLeft(i)),
-        Form::If => down(b, z, routine::first_at(b, z, i), Place::Test(i), SEARCH),
-        Form::Assign => {
-            let l = u32_of_u8(routine::arg_at(b, z, i));
-            seek(b, z, s, routine::first_at(b, z, i), Place::Store(l))
-        }
-        Form::Seq => {
-            let j = routine::second_at(b, z, i);
-            down(b, z, routine::first_at(b, z, i), Place::First(j), SEARCH)
-        }
-        Form::While => down(b, z, routine::first_at(b, z, i), Place::Again(i), WHILE),
+    match row.form(i) {
+        Form::Plus => seek(row, s, row.first(i), Place::PlusLeft(i)),
+        Form::Geq => seek(row, s, row.first(i), Place::GeqLeft(i)),
+        Form::If => down(row, row.first(i), Place::Test(i), None),
+        Form::Assign => seek(row, s, row.first(i), Place::Store(u32::from(row.arg(i)))),
+        Form::Seq => down(row, row.first(i), Place::First(row.second(i)), None),
+        Form::While => down(row, row.first(i), Place::Again(i), Some(Rule::While)),
         Form::Deref => {
-            let l = routine::usize_of_u8(routine::arg_at(b, z, i));
-            comes_to(Work::Int(s[l]), Act::Rest, DEREF)
+            let l = usize::from(row.arg(i));
+            comes_to(Work::Int(s[l]), Act::Rest, Some(Rule::Deref))
         }
-        Form::Integer => comes_to(Work::Skip, Act::Rest, SEARCH),
-        Form::Boolean => comes_to(Work::Skip, Act::Rest, SEARCH),
-        Form::Skip => comes_to(Work::Skip, Act::Rest, SEARCH),
-        Form::Unknown => comes_to(Work::Skip, Act::Rest, SEARCH),
+        Form::Integer | Form::Boolean | Form::Skip | Form::Unknown => comes_to(
+            Work::Skip,
+            Act::Rest,
+            None,
+        ),
     }
 }
 
@@ -213,87 +117,75 @@ fn plus_at(i: u32, l: i32, v: i32) -> Turn
     ensures { Summed i l v result }
 {
     match sums::add(l, v) {
-        Sum::In(z) => comes_to(Work::Int(z), Act::Rest, PLUS),
-        Sum::Out => comes_to(Work::Skip, Act::Over(i), SEARCH),
+        Some(z) => comes_to(Work::Int(z), Act::Rest, Some(Rule::Plus)),
+        None => comes_to(Work::Skip, Act::Over(i), None),
     }
 }
 
 // A value in the place on top.
-fn at_value(b: &[u8], z: Sizes, s: &[i32], f: Place, x: Work) -> Turn
-    requires { Runnable b.now × (takes_of x ≡ 1) × Held b.now f × (locations b.now ≤ length s.now) × ((T : Ty) × (env b.now ⊢ fill (context_of b.now f) (expr_of b.now x) ∶ T)) × SizesOf b.now z }
-    ensures { Went b.now (left_to_search (context_of b.now f)) (fill (context_of b.now f) (expr_of b.now x)) s.now result.work result.act result.top result.rule }
+fn at_value(row: &Routine<'_>, s: &[i32], f: Place, x: Work) -> Turn
+    requires { (takes_of x ≡ 1) × Held row.now f × (locations row.now ≤ length s.now) × ((T : Ty) × (env row.now ⊢ fill (context_of row.now f) (expr_of row.now x) ∶ T)) }
+    ensures { Went row.now (left_to_search (context_of row.now f)) (fill (context_of row.now f) (expr_of row.now x)) s.now result.work result.act result.rule }
 {
     match f {
-        Place::PlusLeft(i) => {
-            let v = number(x);
-            seek(b, z, s, routine::second_at(b, z, i), Place::PlusRight(i, v))
-        }
-        Place::GeqLeft(i) => {
-            let v = number(x);
-            seek(b, z, s, routine::second_at(b, z, i), Place::GeqRight(i, v))
-        }
+        Place::PlusLeft(i) => seek(row, s, row.second(i), Place::PlusRight(i, number(x))),
+        Place::GeqLeft(i) => seek(row, s, row.second(i), Place::GeqRight(i, number(x))),
         Place::PlusRight(i, l) => plus_at(i, l, number(x)),
-        Place::GeqRight(_, l) => comes_to(Work::Bool(sums::geq(l, number(x))), Act::Rest, GEQ),
+        Place::GeqRight(_, l) => comes_to(
+            Work::Bool(sums::geq(l, number(x))),
+            Act::Rest,
+            Some(Rule::Geq),
+        ),
         Place::Test(i) => {
             if truth(x) {
-                leap(b, z, routine::second_at(b, z, i), IF_TRUE)
+                leap(row, row.second(i), Rule::IfTrue)
             } else {
-                leap(b, z, routine::third_at(b, z, i), IF_FALSE)
+                leap(row, row.third(i), Rule::IfFalse)
             }
         }
         Place::Again(i) => {
             if truth(x) {
-                down(b, z, routine::second_at(b, z, i), Place::First(i), IF_TRUE)
+                down(row, row.second(i), Place::First(i), Some(Rule::IfTrue))
             } else {
-                comes_to(Work::Skip, Act::Rest, IF_FALSE)
+                comes_to(Work::Skip, Act::Rest, Some(Rule::IfFalse))
             }
         }
         Place::Store(l) => {
             let v = number(x);
-            comes_to(Work::Skip, Act::Write(l, v), ASSIGN)
+            comes_to(Work::Skip, Act::Write(l, v), Some(Rule::Assign))
         }
-        Place::First(j) => leap(b, z, j, SEQ),
-        Place::Blank => comes_to(Work::Skip, Act::Rest, SEARCH),
+        Place::First(j) => leap(row, j, Rule::Seq),
+        Place::Blank => comes_to(Work::Skip, Act::Rest, None),
     }
 }
 
 // One act at the work x, f being the place on top where x is a value.
-fn act_at(b: &[u8], z: Sizes, s: &[i32], f: Place, x: Work) -> Turn
-    requires { Runnable b.now × Seen b.now x × HeldUnder b.now x f × (locations b.now ≤ length s.now) × ((T : Ty) × (env b.now ⊢ redex b.now x f ∶ T)) × SizesOf b.now z }
-    ensures { Went b.now (search_at b.now x f) (redex b.now x f) s.now result.work result.act result.top result.rule }
+fn act_at(row: &Routine<'_>, s: &[i32], f: Place, x: Work) -> Turn
+    requires { Seen row.now x × HeldUnder row.now x f × (locations row.now ≤ length s.now) × ((T : Ty) × (env row.now ⊢ redex row.now x f ∶ T)) }
+    ensures { Went row.now (search_at row.now x f) (redex row.now x f) s.now result.work result.act result.rule }
 {
-    if takes(x) == 0 {
-        at_node(b, z, s, node_of(x))
-    } else {
-        at_value(b, z, s, f, x)
+    match x {
+        Work::Node(i) => at_node(row, s, i),
+        _ => at_value(row, s, f, x),
     }
 }
 
 impl Machine {
     // One act: a move of the search, a step, or an overflow. The store is not written here: the act says what is to be written.
-    pub fn step(mut self, f: Place, b: &[u8], z: Sizes, s: &[i32]) -> Next
-        requires runnable { Runnable b.now × Seen b.now self.work × HeldUnder b.now self.work f × (locations b.now ≤ length s.now) × ((T : Ty) × (env b.now ⊢ redex b.now self.work f ∶ T)) × SizesOf b.now z }
+    pub fn step(self, f: Place, row: &Routine<'_>, s: &[i32]) -> Next
+        requires stands { Seen row.now self.work × HeldUnder row.now self.work f × (locations row.now ≤ length s.now) × ((T : Ty) × (env row.now ⊢ redex row.now self.work f ∶ T)) }
         requires steps_bound { (self.steps < 8589934592) × (self.loops < 8589934592) }
-        ensures { Stepped b.now (search_at b.now self.work f) (redex b.now self.work f) s.now self result }
+        ensures { Stepped row.now (search_at row.now self.work f) (redex row.now self.work f) s.now self result }
     {
-        let x = self.work;
-        let t = act_at(b, z, s, f, x);
-        let rule = t.rule;
-        self.steps = self.steps + made(rule);
-        self.loops = self.loops + turned(rule);
-        self.rule = last_rule(rule, self.rule);
-        let y = t.work;
-        let act = t.act;
-        let top = t.top;
+        let turn = act_at(row, s, f, self.work);
         Next {
             to: Machine {
-                work: y,
-                steps: self.steps,
-                loops: self.loops,
-                rule: self.rule,
+                work: turn.work,
+                steps: self.steps + made(turn.rule),
+                loops: self.loops + turned(turn.rule),
+                rule: last_rule(turn.rule, self.rule),
             },
-            act: act,
-            top: top,
+            act: turn.act,
         }
     }
 }

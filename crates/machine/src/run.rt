@@ -1,93 +1,82 @@
-// The run on frames by value: its first moment, and on from a moment to a limit of steps.
+// The run: its first moment, and on from a moment to a limit of steps.
 //
 // The loop in `go_on` starts with a test of the work and no subtraction, and it writes the store last, when the fewest numbers are still wanted:
 // docs/PERFORMANCE.md says what these give.
-ghost use Rattle.std.specs.Prelude.{◌≡◌, ◌+◌, ◌<◌, ◌≤◌, length};
+ghost use Rattle.std.specs.Prelude.{◌≡◌, ◌+◌, ◌-◌, ◌<◌, ◌≤◌, length};
 ghost use Rattle.l1.specs.Store.{Store};
 ghost use Rattle.l1.specs.Run.{Yields, answer};
 ghost use Rattle.stored.specs.Refusals.{count};
-ghost use Rattle.routine.specs.Open.{SizesOf, root_of, Runnable};
+ghost use Rattle.routine.specs.Open.{root_of};
 ghost use Rattle.machine.specs.State.{outcome_of};
 ghost use Rattle.machine.specs.Moment.{meaning, Moment};
 ghost use Rattle.machine.specs.Acts.{Loaded};
 
 use crate::acts::load;
-use crate::state::{
-    Ending, Frame, Machine, Pending, Place, end_of, grows, is_over, over_at, takes, write,
-};
-use routine::Sizes;
+use crate::state::{Act, Ending, Frame, Machine, Pending, Work, end_of};
+use routine::Routine;
 
-// Where a run stands when it ends or its fuel is spent.
+// Where a run stands when it ends or its fuel is spent; the places are in what was lent.
 #[derive(Drop)]
-pub struct Paused {
+pub struct Stand {
     pub ending: Ending,
-    pub pending: Pending,
     pub machine: Machine,
 }
 
 // The machine before the first step.
-pub fn start(b: &[u8], z: Sizes, root: u32) -> Machine
-    requires { Runnable b.now × (root + 1 ≡ count b.now) × SizesOf b.now z }
-    ensures { Loaded b.now root result.work × (result.steps ≡ 0) × (result.loops ≡ 0) × (result.rule ≡ 0) }
+pub fn start(row: &Routine<'_>) -> Machine
+    ensures { Loaded row.now (count row.now - 1) result.work × (result.steps ≡ 0) × (result.loops ≡ 0) × (result.rule ≡ None) }
 {
     Machine {
-        work: load(b, z, root),
+        work: load(row, row.root()),
         steps: 0,
         loops: 0,
-        rule: 0,
-    }
-}
-
-pub fn no_places() -> Pending
-    ensures { (result.height ≡ 0) × (length result.frames ≡ 256) }
-{
-    let blank = Frame {
-        place: Place::Blank,
-    };
-    let frames = [blank; 256];
-    Pending {
-        frames: frames,
-        height: 0,
+        rule: None,
     }
 }
 
 // On from a moment until the run ends or has made `limit` steps in all.
-pub fn go_on(b: &[u8], z: Sizes, stack: Pending, from: Machine, s: &mut [i32], limit: u64) -> Paused
-    requires { (limit < 4294967296) × (from.steps ≤ limit) × ((s₀ : Store) × Moment b.now s₀ s.old stack from) × SizesOf b.now z }
-    ensures { (s₀ : Store) → Moment b.now s₀ s.old stack from → Moment b.now s₀ s.new result.pending result.machine × Yields limit (root_of b.now) s₀ (answer (outcome_of result.ending) result.machine.steps result.machine.loops (meaning b.now result.pending result.machine) s.new) }
+pub fn go_on(
+    row: &Routine<'_>,
+    pending: &mut Pending,
+    mut machine: Machine,
+    s: &mut [i32],
+    limit: u64,
+) -> Stand
+    requires { (limit < 4294967296) × (machine.steps ≤ limit) × ((s₀ : Store) × Moment row.now s₀ s.old pending.old machine) }
+    ensures { (s₀ : Store) → Moment row.now s₀ s.old pending.old machine → Moment row.now s₀ s.new pending.new result.machine × Yields limit (root_of row.now) s₀ (answer (outcome_of result.ending) result.machine.steps result.machine.loops (meaning row.now pending.new result.machine) s.new) }
 {
-    let mut p = stack;
-    let mut m = from;
-    let out = loop {
-        let x = m.work;
-        let at = if takes(x) == 0 {
-            p.height
-        } else if p.height == 0 {
-            break end_of(x);
-        } else {
-            p.height - 1
+    let ending = loop {
+        let at = match machine.work {
+            Work::Node(_) => pending.height,
+            _ if pending.height == 0 => break end_of(machine.work),
+            _ => pending.height - 1,
         };
-        let frame = p.frames[at];
-        let place = frame.place;
-        let next = m.step(place, b, z, s);
-        let act = next.act;
-        if is_over(act) {
-            break Ending::Overflow(over_at(act));
+        let next = machine.step(pending.frames[at].place, row, s);
+        let spent = limit < next.to.steps;
+        match next.act {
+            Act::Over(node) => break Ending::Overflow(node),
+            Act::Push(place) => {
+                if spent {
+                    break Ending::Fuel;
+                }
+                pending.frames[at] = Frame { place };
+                pending.height = at + 1;
+            }
+            Act::Rest => {
+                if spent {
+                    break Ending::Fuel;
+                }
+                pending.height = at;
+            }
+            Act::Write(l, n) => {
+                if spent {
+                    break Ending::Fuel;
+                }
+                pending.height = at;
+                s[l as usize] = n;
+            }
         }
-        let to = next.to;
-        if limit < to.steps {
-            break Ending::Fuel;
-        }
-        let pushed = next.top;
-        let top = Frame { place: pushed };
-        p.frames[at] = top;
-        p.height = at + grows(act);
-        write(act, s);
-        m = to;
+        machine = next.to;
     };
-    Paused {
-        ending: out,
-        pending: p,
-        machine: m,
-    }
+    Stand { ending, machine }
 }

@@ -1,14 +1,11 @@
 // The state of a run: pending places, the work, and what becomes of them in a turn.
 //
-// Some choices here are for speed, and each was measured. `Work::Node` holds a u64, because an enum of eight bytes or less is carried packed in
-// one word and shifted apart at every turn; the place that an act pushes stands beside the act and not inside it; and the first payload of every
-// place is a u32, at one offset: docs/DECISIONS.md has what they gave.
-ghost use Rattle.std.specs.Prelude.{◌≡◌, ◌<◌, length};
-ghost use Rattle.machine.specs.State.{takes_of, node_of, number_of, truth_of, end_of};
-ghost use Rattle.machine.specs.Acts.{grows_of, is_over, over_at, written, Within};
+// The first payload of every place is a u32, at one offset, for speed: docs/DECISIONS.md has what that gave.
+ghost use Rattle.std.specs.Prelude.{◌≡◌, length};
+ghost use Rattle.machine.specs.State.{number_of, truth_of, end_of};
 
 // A pending place: what waits for the value of the work. A number is the node that the place belongs to, but that of `Store` is the location
-// to write and that of `First` the node to go on with.
+// to write and that of `First` the node to go on with. `Blank` stands in the frames from the height on, which hold something too.
 #[derive(Clone, Copy)]
 pub enum Place {
     Blank,
@@ -37,37 +34,49 @@ pub struct Pending {
 // The work: a node of the routine that is no literal, or a value.
 #[derive(Clone, Copy)]
 pub enum Work {
-    Node(u64),
+    Node(u32),
     Int(i32),
     Bool(bool),
     Skip,
 }
 
-// Beside the work: T, K, and the number of the last step's rule.
+// The rules that make steps.
+#[derive(Clone, Copy, PartialEq, Eq)]
+pub enum Rule {
+    Plus,
+    Geq,
+    Deref,
+    Assign,
+    Seq,
+    IfTrue,
+    IfFalse,
+    While,
+}
+
+// Beside the work: T, K, and the rule of the last step, None before the first.
 #[derive(Clone, Copy)]
 pub struct Machine {
     pub work: Work,
     pub steps: u64,
     pub loops: u64,
-    pub rule: u64,
+    pub rule: Option<Rule>,
 }
 
-// What becomes of the pending places and of the store.
+// What becomes of the pending places and of the store. A sum out of range is one of four ways on, and no error of the other three.
 #[derive(Clone, Copy)]
 pub enum Act {
-    Push,
+    Push(Place),
     Rest,
     Write(u32, i32),
     Over(u32),
 }
 
-// An act: the next work, what becomes of the places and the store, the place to push, and the number of the rule, 0 for a move of the search.
+// An act: the next work, what becomes of the places and the store, and the rule, None for a move of the search.
 #[derive(Clone, Copy)]
 pub struct Turn {
     pub work: Work,
     pub act: Act,
-    pub top: Place,
-    pub rule: u64,
+    pub rule: Option<Rule>,
 }
 
 // The machine after an act.
@@ -75,7 +84,6 @@ pub struct Turn {
 pub struct Next {
     pub to: Machine,
     pub act: Act,
-    pub top: Place,
 }
 
 #[derive(Clone, Copy)]
@@ -87,50 +95,34 @@ pub enum Ending {
     Fuel,
 }
 
-// How many places a work takes: a value stands in the place on top.
-pub fn takes(x: Work) -> usize
-    ensures { result ≡ takes_of x }
-{
-    match x {
-        Work::Node(_) => 0,
-        Work::Int(_) => 1,
-        Work::Bool(_) => 1,
-        Work::Skip => 1,
+impl Pending {
+    pub fn new() -> Pending
+        ensures { (result.height ≡ 0) × (length result.frames ≡ 256) }
+    {
+        let blank = Frame {
+            place: Place::Blank,
+        };
+        Pending {
+            frames: [blank; 256],
+            height: 0,
+        }
     }
 }
 
-pub fn node_of(x: Work) -> u32
-    requires { node_of x < 4294967296 }
-    ensures { result ≡ node_of x }
-{
-    match x {
-        Work::Node(i) => i as u32,
-        Work::Int(_) => 0,
-        Work::Bool(_) => 0,
-        Work::Skip => 0,
-    }
-}
-
+// Of a value that is an integer: the types see to it. An Option would have a way on that no row takes; so with the two below.
 pub fn number(x: Work) -> i32
     ensures { result ≡ number_of x }
 {
     match x {
-        Work::Node(_) => 0,
         Work::Int(n) => n,
-        Work::Bool(_) => 0,
-        Work::Skip => 0,
+        _ => 0,
     }
 }
 
 pub fn truth(x: Work) -> bool
     ensures { result ≡ truth_of x }
 {
-    match x {
-        Work::Node(_) => false,
-        Work::Int(_) => false,
-        Work::Bool(t) => t,
-        Work::Skip => false,
-    }
+    matches!(x, Work::Bool(true))
 }
 
 pub fn end_of(x: Work) -> Ending
@@ -141,52 +133,5 @@ pub fn end_of(x: Work) -> Ending
         Work::Int(n) => Ending::Int(n),
         Work::Bool(t) => Ending::Bool(t),
         Work::Skip => Ending::Skip,
-    }
-}
-
-pub fn grows(a: Act) -> usize
-    ensures { result ≡ grows_of a }
-{
-    match a {
-        Act::Push => 1,
-        Act::Rest => 0,
-        Act::Write(_, _) => 0,
-        Act::Over(_) => 0,
-    }
-}
-
-pub fn is_over(a: Act) -> bool
-    ensures { result ≡ is_over a }
-{
-    match a {
-        Act::Push => false,
-        Act::Rest => false,
-        Act::Write(_, _) => false,
-        Act::Over(_) => true,
-    }
-}
-
-pub fn over_at(a: Act) -> u32
-    ensures { result ≡ over_at a }
-{
-    match a {
-        Act::Push => 0,
-        Act::Rest => 0,
-        Act::Write(_, _) => 0,
-        Act::Over(n) => n,
-    }
-}
-
-pub fn write(a: Act, s: &mut [i32])
-    requires { Within (length s.old) a }
-    ensures { s.new ≡ written s.old a }
-{
-    match a {
-        Act::Push => {}
-        Act::Rest => {}
-        Act::Write(l, n) => {
-            s[routine::usize_of_u32(l)] = n;
-        }
-        Act::Over(_) => {}
     }
 }

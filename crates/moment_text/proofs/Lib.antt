@@ -2,5 +2,4 @@
 pub mod TextAround  -- the text of a moment is what opens its places, its work, and what closes them
 pub mod ClosingPieces  -- what closes the if that a loop became, in the pieces that are written
 pub mod ClosedPlaces  -- the places that are closed so far, from the innermost
-pub mod NodeLengths  -- what a table holds of the nodes' lengths, none of which is long
 pub mod MomentStands  -- a moment is as the writers of its text ask

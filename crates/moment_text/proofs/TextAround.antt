@@ -8,9 +8,9 @@ use lib.ListN.{length, get_or, length-append}
 use Rattle.l1.specs.Syntax.{Expr}
 use Rattle.l1.specs.Text.{text}
 use Rattle.machine.specs.Contexts.{Context, in_op1, in_op2, in_if3, in_assign2, in_seq2, fill, plug}
-use Rattle.machine.specs.Lent.{frames_of}
 use Rattle.machine.specs.State.{context_of, expr_of, blank, stack}
 use Rattle.machine.specs.declared.state.Frame.{Frame}
+use Rattle.machine.specs.declared.state.Pending.{Pending}
 use Rattle.machine.specs.declared.state.Place.{Place}
 use Rattle.machine.specs.declared.state.Place.TheVariants.{Blank, PlusLeft, GeqLeft, PlusRight, GeqRight, Test, Again, Store, First}
 use Rattle.machine.specs.declared.state.Work.{Work}
@@ -74,11 +74,11 @@ around_more b fs j =
     let f = (get_or fs j blank).place in
     omega (arith, length-append (opens_of fs j) (opening_of f), length-append (closing (context_of b f)) (closes (stack b fs j)))
 
-pub length_around : (b ps : List ℕ) (h : ℕ) (x : Work) → length (moment_text b ps h x) ≡ length (text (expr_of b x)) + around b (frames_of ps) h
-length_around b ps h x = omega (arith, length_plug (stack b (frames_of ps) h) (expr_of b x), ap length (opens_of_lem b (frames_of ps) h))
+pub length_around : (b : List ℕ) (p : Pending) (x : Work) → length (moment_text b p x) ≡ length (text (expr_of b x)) + around b p.frames p.height
+length_around b p x = omega (arith, length_plug (stack b p.frames p.height) (expr_of b x), ap length (opens_of_lem b p.frames p.height))
 
 -- the moment's text in the pieces that are written
-pub moment_pieces : (b ps : List ℕ) (h : ℕ) (x : Work) → let fs = frames_of ps in moment_text b ps h x ≡ opens_of fs h ++ text (expr_of b x) ++ closes (stack b fs h)
-moment_pieces b ps h x =
-    let fs = frames_of ps in
+pub moment_pieces : (b : List ℕ) (p : Pending) (x : Work) → moment_text b p x ≡ opens_of p.frames p.height ++ text (expr_of b x) ++ closes (stack b p.frames p.height)
+moment_pieces b p x =
+    let fs = p.frames in let h = p.height in
     text_plug (stack b fs h) (expr_of b x) ∙ ap (λ (t : List ℕ). t ++ text (expr_of b x) ++ closes (stack b fs h)) (opens_of_lem b fs h)

@@ -6,212 +6,204 @@
 #![tactic(auto)]
 
 ghost use Rattle.std.specs.Prelude.{◌≡◌, ◌++◌, ◌+◌, ◌≤◌, ◌<◌, length};
-ghost use Rattle.l1.specs.Text.{bytes, integer, text};
-ghost use Rattle.stored.specs.Answers.{Opens};
-ghost use Rattle.routine.specs.Open.{IsOpen};
+ghost use Rattle.l1.specs.Text.{text};
+ghost use Rattle.stored.specs.Refusals.{count};
+ghost use Rattle.routine.specs.Open.{Opened};
 ghost use Rattle.machine.specs.State.{expr_of, Seen, Held, context_of, stack};
-ghost use Rattle.machine.specs.Lent.{frames_of};
-ghost use Rattle.node_text.specs.Put.{Put};
+ghost use Rattle.node_text.specs.Pages.{Puts, Fits};
+ghost use Rattle.node_text.specs.Texts.{text_at};
 ghost use Rattle.moment_text.specs.Around.{closing, closes, opening_of, opens_of};
-ghost use Rattle.moment_text.specs.Stand.{place_in, Stands, Measured, moment_text};
+ghost use Rattle.moment_text.specs.Stand.{Stands, Measured, moment_text};
 
-use machine::{Place, Work};
-use node_text::Sign;
-use routine::Sizes;
+use machine::{Pending, Place, Work};
+use node_text::{Page, Sign};
+use routine::Routine;
+use std::marker::Model;
 
-// An integer to the left of an operator.
-fn put_left(n: i32, sign: &[u8], buf: &mut [u8], at: usize) -> usize
-    requires { at + length (bytes "(" ++ integer n ++ sign.now) ≤ length buf.old }
-    ensures { Put buf.old at (bytes "(" ++ integer n ++ sign.now) buf.new result }
-{
-    let p = node_text::put_byte(40, buf, at);
-    let q = node_text::put_number(n, buf, p);
-    node_text::put_bytes(sign, buf, q)
-}
-
-fn put_opening(f: Place, buf: &mut [u8], at: usize) -> usize
-    requires { at + length (opening_of f) ≤ length buf.old }
-    ensures { Put buf.old at (opening_of f) buf.new result }
+fn put_opening(f: Place, page: &mut Page<'_>)
+    requires { Fits page.old (opening_of f) }
+    ensures { Puts page.old (opening_of f) page.new }
 {
     match f {
-        Place::Blank => node_text::put_bytes(b"(", buf, at),
-        Place::PlusLeft(_) => node_text::put_bytes(b"(", buf, at),
-        Place::GeqLeft(_) => node_text::put_bytes(b"(", buf, at),
-        Place::PlusRight(_, n) => put_left(n, b" + ", buf, at),
-        Place::GeqRight(_, n) => put_left(n, b" >= ", buf, at),
-        Place::Test(_) => node_text::put_bytes(b"(if ", buf, at),
-        Place::Again(_) => node_text::put_bytes(b"(if ", buf, at),
-        Place::Store(l) => node_text::put_assigned(l as u64, buf, at),
-        Place::First(_) => node_text::put_bytes(b"(", buf, at),
+        Place::Blank | Place::PlusLeft(_) | Place::GeqLeft(_) | Place::First(_) => page.byte(b'('),
+        Place::PlusRight(_, n) => {
+            page.byte(b'(');
+            page.number(n);
+            page.text(b" + ");
+        }
+        Place::GeqRight(_, n) => {
+            page.byte(b'(');
+            page.number(n);
+            page.text(b" >= ");
+        }
+        Place::Test(_) | Place::Again(_) => page.text(b"(if "),
+        Place::Store(l) => node_text::put_assigned(u64::from(l), page),
     }
 }
 
 // The branches of the if that a loop became: its body with the loop again, and skip.
-fn put_again(b: &[u8], z: Sizes, i: u32, buf: &mut [u8], at: usize) -> usize
-    requires { IsOpen b.now z × Held b.now (Place.Again i) × (at + length (closing (context_of b.now (Place.Again i))) ≤ length buf.old) }
-    ensures { Put buf.old at (closing (context_of b.now (Place.Again i))) buf.new result }
+fn put_again(row: &Routine<'_>, i: u32, page: &mut Page<'_>)
+    requires { Held row.now (Place.Again i) × Fits page.old (closing (context_of row.now (Place.Again i))) }
+    ensures { Puts page.old (closing (context_of row.now (Place.Again i))) page.new }
 {
-    let p = node_text::put_bytes(b" then (", buf, at);
-    let q = node_text::put_tree(b, z, routine::second_at(b, z, i), buf, p);
-    let r = node_text::put_right(b, z, Sign::Seq, i, buf, q);
-    node_text::put_bytes(b" else skip)", buf, r)
+    page.text(b" then (");
+    node_text::put_tree(row, row.second(i), page);
+    node_text::put_right(row, Sign::Seq, i, page);
+    page.text(b" else skip)");
 }
 
-fn put_closing(b: &[u8], z: Sizes, f: Place, buf: &mut [u8], at: usize) -> usize
-    requires { IsOpen b.now z × Held b.now f × (at + length (closing (context_of b.now f)) ≤ length buf.old) }
-    ensures { Put buf.old at (closing (context_of b.now f)) buf.new result }
+fn put_closing(row: &Routine<'_>, f: Place, page: &mut Page<'_>)
+    requires { Held row.now f × Fits page.old (closing (context_of row.now f)) }
+    ensures { Puts page.old (closing (context_of row.now f)) page.new }
 {
     match f {
-        Place::Blank => node_text::put_bytes(b" ; skip)", buf, at),
-        Place::PlusLeft(i) => node_text::put_right(
-            b,
-            z,
-            Sign::Plus,
-            routine::second_at(b, z, i),
-            buf,
-            at,
-        ),
-        Place::GeqLeft(i) => node_text::put_right(
-            b,
-            z,
-            Sign::Geq,
-            routine::second_at(b, z, i),
-            buf,
-            at,
-        ),
-        Place::PlusRight(_, _) => node_text::put_bytes(b")", buf, at),
-        Place::GeqRight(_, _) => node_text::put_bytes(b")", buf, at),
-        Place::Test(i) => {
-            let c = routine::second_at(b, z, i);
-            node_text::put_branches(b, z, c, routine::third_at(b, z, i), buf, at)
-        }
-        Place::Again(i) => put_again(b, z, i, buf, at),
-        Place::Store(_) => node_text::put_bytes(b")", buf, at),
-        Place::First(j) => node_text::put_right(b, z, Sign::Seq, j, buf, at),
+        Place::Blank => page.text(b" ; skip)"),
+        Place::PlusLeft(i) => node_text::put_right(row, Sign::Plus, row.second(i), page),
+        Place::GeqLeft(i) => node_text::put_right(row, Sign::Geq, row.second(i), page),
+        Place::PlusRight(_, _) | Place::GeqRight(_, _) | Place::Store(_) => page.byte(b')'),
+        Place::Test(i) => node_text::put_branches(row, row.second(i), row.third(i), page),
+        Place::Again(i) => put_again(row, i, page),
+        Place::First(j) => node_text::put_right(row, Sign::Seq, j, page),
     }
 }
 
-fn put_work(b: &[u8], z: Sizes, x: Work, buf: &mut [u8], at: usize) -> usize
-    requires { IsOpen b.now z × Seen b.now x × (at + length (text (expr_of b.now x)) ≤ length buf.old) }
-    ensures { Put buf.old at (text (expr_of b.now x)) buf.new result }
+fn put_work(row: &Routine<'_>, x: Work, page: &mut Page<'_>)
+    requires { Opened row.now × Seen row.now x × Fits page.old (text (expr_of row.now x)) }
+    ensures { Puts page.old (text (expr_of row.now x)) page.new }
 {
     match x {
-        Work::Node(i) => node_text::put_tree(b, z, i as u32, buf, at),
-        Work::Int(n) => node_text::put_number(n, buf, at),
-        Work::Bool(t) => node_text::put_truth(t, buf, at),
-        Work::Skip => node_text::put_bytes(b"skip", buf, at),
+        Work::Node(i) => node_text::put_tree(row, i, page),
+        Work::Int(n) => page.number(n),
+        Work::Bool(t) => page.truth(t),
+        Work::Skip => page.text(b"skip"),
     }
 }
 
-// What opens the places below h, the outermost first.
-fn put_opens(places: &[u32], h: usize, buf: &mut [u8], at: usize) -> usize
-    requires { (h ≤ length (frames_of places.now)) × (at + length (opens_of (frames_of places.now) h) ≤ length buf.old) }
-    ensures { Put buf.old at (opens_of (frames_of places.now) h) buf.new result }
+// What opens the places, the outermost first.
+fn put_opens(pending: &Pending, page: &mut Page<'_>)
+    requires { (pending.now.height ≤ 256) × Fits page.old (opens_of pending.now.frames pending.now.height) }
+    ensures { Puts page.old (opens_of pending.now.frames pending.now.height) page.new }
 {
-    let mut p = at;
-    let mut j = 0;
-    while j < h {
-        p = put_opening(machine::place_at(places, j), buf, p);
-        j += 1;
+    for j in 0..pending.height {
+        put_opening(pending.frames[j].place, page);
     }
-    p
 }
 
 // What closes them, the innermost first.
-fn put_closes(b: &[u8], z: Sizes, places: &[u32], h: usize, buf: &mut [u8], at: usize) -> usize
-    requires { Stands b.now z places.now h × (at + length (closes (stack b.now (frames_of places.now) h)) ≤ length buf.old) }
-    ensures { Put buf.old at (closes (stack b.now (frames_of places.now) h)) buf.new result }
+fn put_closes(row: &Routine<'_>, pending: &Pending, page: &mut Page<'_>)
+    requires { Stands row.now pending.now × Fits page.old (closes (stack row.now pending.now.frames pending.now.height)) }
+    ensures { Puts page.old (closes (stack row.now pending.now.frames pending.now.height)) page.new }
 {
-    let mut p = at;
-    let mut j = h;
-    while 0 < j {
-        j -= 1;
-        p = put_closing(b, z, machine::place_at(places, j), buf, p);
+    for j in (0..pending.height).rev() {
+        put_closing(row, pending.frames[j].place, page);
     }
-    p
 }
 
-pub fn put_moment(
-    b: &[u8],
-    z: Sizes,
-    places: &[u32],
-    h: usize,
-    x: Work,
-    buf: &mut [u8],
-    at: usize,
-) -> usize
-    requires { Stands b.now z places.now h × Seen b.now x × (at + length (moment_text b.now places.now h x) ≤ length buf.old) }
-    ensures { Put buf.old at (moment_text b.now places.now h x) buf.new result }
-{
-    let p = put_opens(places, h, buf, at);
-    let q = put_work(b, z, x, buf, p);
-    put_closes(b, z, places, h, buf, q)
+// What a moment is measured by: the routine, and a table of the lengths of its nodes' texts.
+#[derive(Drop)]
+struct Lengths<'a> {
+    row: &'a Routine<'a>,
+    table: &'a [u32],
+    ghost measured: { Measured row.now table.now },
 }
 
-// The length of what opens and closes a place.
-fn place_length(b: &[u8], z: Sizes, f: Place, lengths: &[u32]) -> usize
-    requires { IsOpen b.now z × Held b.now f × Measured b.now lengths.now }
-    ensures { (result ≡ length (opening_of f) + length (closing (context_of b.now f))) × (result ≤ 400000) }
-{
-    match f {
-        Place::Blank => 9,
-        Place::PlusLeft(i) => 5 + node_text::length_in(lengths, routine::second_at(b, z, i)),
-        Place::GeqLeft(i) => 6 + node_text::length_in(lengths, routine::second_at(b, z, i)),
-        Place::PlusRight(_, n) => 5 + node_text::number_width(n),
-        Place::GeqRight(_, n) => 6 + node_text::number_width(n),
-        Place::Test(i) => {
-            let t = node_text::length_in(lengths, routine::second_at(b, z, i));
-            17 + t + node_text::length_in(lengths, routine::third_at(b, z, i))
+impl<'a> Lengths<'a> {
+    // The length of node j's text.
+    fn node(&self, j: u32) -> usize
+        requires { j < count self.now.row.now }
+        ensures { (result ≡ length (text_at self.now.row.now j)) × (result ≤ 163840) }
+    {
+        node_text::length_in(self.table, j)
+    }
+
+    // The length of what opens and closes a place.
+    fn place(&self, f: Place) -> usize
+        requires { Held self.now.row.now f }
+        ensures { (result ≡ length (opening_of f) + length (closing (context_of self.now.row.now f))) × (result ≤ 400000) }
+    {
+        match f {
+            Place::Blank => 9,
+            Place::PlusLeft(i) => 5 + self.node(self.row.second(i)),
+            Place::GeqLeft(i) => 6 + self.node(self.row.second(i)),
+            Place::PlusRight(_, n) => 5 + node_text::number_width(n),
+            Place::GeqRight(_, n) => 6 + node_text::number_width(n),
+            Place::Test(i) => 17 + self.node(self.row.second(i)) + self.node(self.row.third(i)),
+            Place::Again(i) => 26 + self.node(self.row.second(i)) + self.node(i),
+            Place::Store(l) => 7 + node_text::width(u64::from(l)),
+            Place::First(j) => 5 + self.node(j),
         }
-        Place::Again(i) => {
-            let t = node_text::length_in(lengths, routine::second_at(b, z, i));
-            26 + t + node_text::length_in(lengths, i)
+    }
+
+    fn work(&self, x: Work) -> usize
+        requires { Opened self.now.row.now × Seen self.now.row.now x }
+        ensures { (result ≡ length (text (expr_of self.now.row.now x))) × (result ≤ 200000) }
+    {
+        match x {
+            Work::Node(i) => self.node(i),
+            Work::Int(n) => node_text::number_width(n),
+            Work::Bool(t) => node_text::truth_width(t),
+            Work::Skip => 4,
         }
-        Place::Store(l) => 7 + node_text::width(l as u64),
-        Place::First(j) => 5 + node_text::length_in(lengths, j),
     }
 }
 
-// The same of place j. A moment with many loops under way has little else than places of the tag 8, a first part: they are asked for before the others.
-fn lent_length(b: &[u8], z: Sizes, places: &[u32], j: usize, lengths: &[u32]) -> usize
-    requires { IsOpen b.now z × (j < length (frames_of places.now)) × Held b.now (place_in places.now j) × Measured b.now lengths.now }
-    ensures { (result ≡ length (opening_of (place_in places.now j)) + length (closing (context_of b.now (place_in places.now j)))) × (result ≤ 400000) }
-{
-    if machine::tag_at(places, j) == 8 {
-        return 5 + node_text::length_in(lengths, machine::number_at(places, j));
-    }
-    place_length(b, z, machine::place_at(places, j), lengths)
+// A moment of a run that is shown: the places that are pending, the work, and what its text is measured by. To a clause it is its text.
+#[derive(Drop)]
+pub struct Moment<'a> {
+    lengths: Lengths<'a>,
+    pending: &'a Pending,
+    work: Work,
 }
 
-fn work_length(b: &[u8], x: Work, lengths: &[u32]) -> usize
-    requires { Opens b.now × Seen b.now x × Measured b.now lengths.now }
-    ensures { (result ≡ length (text (expr_of b.now x))) × (result ≤ 200000) }
-{
-    match x {
-        Work::Node(i) => node_text::length_in(lengths, i as u32),
-        Work::Int(n) => node_text::number_width(n),
-        Work::Bool(t) => node_text::truth_width(t),
-        Work::Skip => 4,
-    }
+impl<'a> Model for Moment<'a> {
+    ghost use Rattle.std.specs.Prelude.{ℕ, List};
+    ghost use Rattle.machine.specs.State.{Seen};
+    ghost use Rattle.moment_text.specs.Stand.{Stands, moment_text};
+
+    ghost Value = { List ℕ };
+
+    ghost view = { λ m. moment_text m.lengths.row.now m.pending.now m.work };
+
+    ghost invariant = { λ m. Stands m.lengths.row.now m.pending.now × Seen m.lengths.row.now m.work };
 }
 
-// The places are passed from the last one down, which is an instruction less for each of them.
-pub fn moment_length(
-    b: &[u8],
-    z: Sizes,
-    places: &[u32],
-    h: usize,
-    x: Work,
-    lengths: &[u32],
-) -> usize
-    requires { Stands b.now z places.now h × Seen b.now x × Measured b.now lengths.now }
-    ensures { (result ≡ length (moment_text b.now places.now h x)) × (result < 1000000000) }
-{
-    let mut r = work_length(b, x, lengths);
-    let mut left = h;
-    while 0 < left {
-        left -= 1;
-        r += lent_length(b, z, places, left, lengths);
+impl<'a> Moment<'a> {
+    // With a table of the lengths of the nodes' texts.
+    pub fn of(
+        row: &'a Routine<'a>,
+        pending: &'a Pending,
+        work: Work,
+        table: &'a [u32],
+    ) -> Moment<'a>
+        requires { Stands row.now pending.now × Seen row.now work × Measured row.now table.now }
+        ensures { result ≡ moment_text row.now pending.now work }
+    {
+        Moment {
+            lengths: Lengths { row, table },
+            pending,
+            work,
+        }
     }
-    r
+
+    // The length of its text.
+    pub fn length(&self) -> usize
+        ensures { (result ≡ length self.now) × (result < 1000000000) }
+    {
+        let lengths = &self.lengths;
+        let pending = self.pending;
+        let mut n = lengths.work(self.work);
+        for j in 0..pending.height {
+            n += lengths.place(pending.frames[j].place);
+        }
+        n
+    }
+
+    pub fn put(&self, page: &mut Page<'_>)
+        requires { Fits page.old self.now }
+        ensures { Puts page.old self.now page.new }
+    {
+        put_opens(self.pending, page);
+        put_work(self.lengths.row, self.work, page);
+        put_closes(self.lengths.row, self.pending, page);
+    }
 }

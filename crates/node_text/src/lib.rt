@@ -1,7 +1,7 @@
 // Writes numbers, pieces of text and the text of a stored node into a lent buffer that has room for them, and measures them before.
 //
-// Every writer asks for its room and returns the place after what it wrote. So none of them tests a bound, and a text that has no room is known
-// by its length before its first byte is written.
+// Every writer asks for its room. So none of them tests a bound, and a text that has no room is known by its length before its first byte is
+// written.
 
 #![tactic(auto)]
 
@@ -9,39 +9,87 @@ ghost use Rattle.std.specs.Prelude.{◌≡◌, [], ◌∷◌, ◌++◌, ◌+◌,
 ghost use Rattle.l1.specs.Text.{bytes, decimal, integer, truth, location};
 ghost use Rattle.stored.specs.Layout.{child1, child2};
 ghost use Rattle.stored.specs.Refusals.{count};
-ghost use Rattle.routine.specs.Open.{IsOpen};
-ghost use Rattle.node_text.specs.Put.{Put};
+ghost use Rattle.node_text.specs.Pages.{Puts, Fits};
 ghost use Rattle.node_text.specs.Texts.{form_at, text_at, sign_text, branches};
 ghost use Rattle.node_text.specs.Lengths.{LengthsOf, Filled};
 
-use routine::{Form, Sizes};
+use routine::{Form, Routine};
 
 // What stands between the two parts of a sum, a comparison or a sequence.
-#[derive(Drop)]
+#[derive(Clone, Copy)]
 pub enum Sign {
     Plus,
     Geq,
     Seq,
 }
 
-pub fn put_byte(x: u8, buf: &mut [u8], at: usize) -> usize
-    requires { at < length buf.old }
-    ensures { Put buf.old at (x ∷ []) buf.new result }
-{
-    buf[at] = x;
-    at + 1
+// A lent buffer, and the place in it where the next byte goes.
+#[derive(Drop)]
+pub struct Page<'a> {
+    pub room: &'a mut [u8],
+    pub at: usize,
 }
 
-pub fn put_bytes(s: &[u8], buf: &mut [u8], at: usize) -> usize
-    requires { at + length s.now ≤ length buf.old }
-    ensures { Put buf.old at s.now buf.new result }
-{
-    let mut j = 0;
-    while j < s.len() {
-        buf[at + j] = s[j];
-        j += 1;
+impl<'a> Page<'a> {
+    pub fn byte(&mut self, x: u8)
+        requires { Fits self.old (x ∷ []) }
+        ensures { Puts self.old (x ∷ []) self.new }
+    {
+        let at = self.at;
+        let room = &mut *self.room;
+        room[at] = x;
+        self.at = at + 1;
     }
-    at + j
+
+    // Byte by byte: the pieces are short constants, for which `copy_from_slice` is a call.
+    pub fn text(&mut self, s: &[u8])
+        requires { Fits self.old s.now }
+        ensures { Puts self.old s.now self.new }
+    {
+        let at = self.at;
+        let room = &mut *self.room;
+        for j in 0..s.len() {
+            room[at + j] = s[j];
+        }
+        self.at = at + s.len();
+    }
+
+    // Not by `Display`: what `trace` prints is proved of `decimal`. Most numbers of a row have one digit or two: a call for each digit of these makes a trace slower by up to a sixth.
+    pub fn decimal(&mut self, n: u64)
+        requires { Fits self.old (decimal n) }
+        ensures { Puts self.old (decimal n) self.new }
+    {
+        if n <= 9 {
+            self.byte(digit(n));
+            return;
+        }
+        if n <= 99 {
+            self.text(&[digit(n / 10), digit(n)]);
+            return;
+        }
+        put_long(n, self);
+    }
+
+    pub fn number(&mut self, n: i32)
+        requires { Fits self.old (integer n) }
+        ensures { Puts self.old (integer n) self.new }
+    {
+        if n < 0 {
+            self.byte(b'-');
+        }
+        self.decimal(sums::magnitude(n));
+    }
+
+    pub fn truth(&mut self, t: bool)
+        requires { Fits self.old (truth t) }
+        ensures { Puts self.old (truth t) self.new }
+    {
+        if t {
+            self.text(b"true");
+        } else {
+            self.text(b"false");
+        }
+    }
 }
 
 // How many digits a number has.
@@ -60,60 +108,32 @@ pub fn width(n: u64) -> usize
 fn digit(n: u64) -> u8
     ensures { result ≡ 48 + n % 10 }
 {
-    (48 + n % 10) as u8
+    b'0' + (n % 10) as u8
 }
 
 // The least number of two digits.
 const TWO_DIGITS: u64 = 10;
 
-// A number of any length, a call for each digit.
-fn put_long(n: u64, buf: &mut [u8], at: usize) -> usize
-    requires { at + length (decimal n) ≤ length buf.old }
-    ensures { Put buf.old at (decimal n) buf.new result }
+// A number of any length, a call for each two digits: a call for each digit makes a trace whose lines are numbers slower by up to a quarter.
+fn put_long(n: u64, page: &mut Page<'_>)
+    requires { Fits page.old (decimal n) }
+    ensures { Puts page.old (decimal n) page.new }
 {
     if n < TWO_DIGITS {
-        put_byte(digit(n), buf, at)
-    } else {
-        let p = put_long(n / 10, buf, at);
-        put_byte(digit(n), buf, p)
+        page.byte(digit(n));
+        return;
     }
-}
-
-// Most numbers of a row have one digit or two: a call for each digit of these makes a trace slower by up to a sixth.
-pub fn put_decimal(n: u64, buf: &mut [u8], at: usize) -> usize
-    requires { at + length (decimal n) ≤ length buf.old }
-    ensures { Put buf.old at (decimal n) buf.new result }
-{
-    if n <= 9 {
-        return put_byte(digit(n), buf, at);
+    if 99 < n {
+        put_long(n / 100, page);
     }
-    if n <= 99 {
-        let p = put_byte(digit(n / 10), buf, at);
-        return put_byte(digit(n), buf, p);
-    }
-    put_long(n, buf, at)
+    page.text(&[digit(n / 10), digit(n)]);
 }
 
 pub fn number_width(n: i32) -> usize
     ensures { (result ≡ length (integer n)) × (result ≤ 21) }
 {
-    if n < 0 {
-        1 + width(sums::magnitude(n))
-    } else {
-        width(sums::magnitude(n))
-    }
-}
-
-pub fn put_number(n: i32, buf: &mut [u8], at: usize) -> usize
-    requires { at + length (integer n) ≤ length buf.old }
-    ensures { Put buf.old at (integer n) buf.new result }
-{
-    if n < 0 {
-        let p = put_byte(45, buf, at);
-        put_decimal(sums::magnitude(n), buf, p)
-    } else {
-        put_decimal(sums::magnitude(n), buf, at)
-    }
+    let w = width(sums::magnitude(n));
+    if n < 0 { 1 + w } else { w }
 }
 
 pub fn truth_width(t: bool) -> usize
@@ -122,154 +142,136 @@ pub fn truth_width(t: bool) -> usize
     if t { 4 } else { 5 }
 }
 
-pub fn put_truth(t: bool, buf: &mut [u8], at: usize) -> usize
-    requires { at + length (truth t) ≤ length buf.old }
-    ensures { Put buf.old at (truth t) buf.new result }
-{
-    if t {
-        put_bytes(b"true", buf, at)
-    } else {
-        put_bytes(b"false", buf, at)
-    }
-}
-
-fn put_location(l: u64, buf: &mut [u8], at: usize) -> usize
-    requires { at + length (location l) ≤ length buf.old }
-    ensures { Put buf.old at (location l) buf.new result }
-{
-    let p = put_byte(108, buf, at);
-    put_decimal(l, buf, p)
-}
-
 // What stands before the right side of an assignment to l.
-pub fn put_assigned(l: u64, buf: &mut [u8], at: usize) -> usize
-    requires { at + length (bytes "(" ++ location l ++ bytes " := ") ≤ length buf.old }
-    ensures { Put buf.old at (bytes "(" ++ location l ++ bytes " := ") buf.new result }
+pub fn put_assigned(l: u64, page: &mut Page<'_>)
+    requires { Fits page.old (bytes "(" ++ location l ++ bytes " := ") }
+    ensures { Puts page.old (bytes "(" ++ location l ++ bytes " := ") page.new }
 {
-    let p = put_byte(40, buf, at);
-    let q = put_location(l, buf, p);
-    put_bytes(b" := ", buf, q)
+    page.text(b"(l");
+    page.decimal(l);
+    page.text(b" := ");
 }
 
-fn put_deref(l: u64, buf: &mut [u8], at: usize) -> usize
-    requires { at + length (bytes "!" ++ location l) ≤ length buf.old }
-    ensures { Put buf.old at (bytes "!" ++ location l) buf.new result }
+fn put_deref(l: u64, page: &mut Page<'_>)
+    requires { Fits page.old (bytes "!" ++ location l) }
+    ensures { Puts page.old (bytes "!" ++ location l) page.new }
 {
-    let p = put_byte(33, buf, at);
-    put_location(l, buf, p)
+    page.text(b"!l");
+    page.decimal(l);
 }
 
 // The bracket that opens a text, and node j.
 #[cycle(put_branches_put_closed_put_if_put_opened_put_tree_put_while)]
-fn put_opened(b: &[u8], z: Sizes, j: u32, buf: &mut [u8], at: usize) -> usize
-    requires { IsOpen b.now z × (j < count b.now) × (at + length (bytes "(" ++ text_at b.now j) ≤ length buf.old) }
-    ensures { Put buf.old at (bytes "(" ++ text_at b.now j) buf.new result }
+fn put_opened(row: &Routine<'_>, j: u32, page: &mut Page<'_>)
+    requires { (j < count row.now) × Fits page.old (bytes "(" ++ text_at row.now j) }
+    ensures { Puts page.old (bytes "(" ++ text_at row.now j) page.new }
 {
-    let p = put_byte(40, buf, at);
-    put_tree(b, z, j, buf, p)
+    page.byte(b'(');
+    put_tree(row, j, page);
 }
 
 // Node j, and the bracket that closes a text.
 #[cycle(put_branches_put_closed_put_if_put_opened_put_tree_put_while)]
-fn put_closed(b: &[u8], z: Sizes, j: u32, buf: &mut [u8], at: usize) -> usize
-    requires { IsOpen b.now z × (j < count b.now) × (at + length (text_at b.now j ++ bytes ")") ≤ length buf.old) }
-    ensures { Put buf.old at (text_at b.now j ++ bytes ")") buf.new result }
+fn put_closed(row: &Routine<'_>, j: u32, page: &mut Page<'_>)
+    requires { (j < count row.now) × Fits page.old (text_at row.now j ++ bytes ")") }
+    ensures { Puts page.old (text_at row.now j ++ bytes ")") page.new }
 {
-    let p = put_tree(b, z, j, buf, at);
-    put_byte(41, buf, p)
+    put_tree(row, j, page);
+    page.byte(b')');
 }
 
 // The branches of an if, behind its test.
 #[cycle(put_branches_put_closed_put_if_put_opened_put_tree_put_while)]
-pub fn put_branches(b: &[u8], z: Sizes, c: u32, d: u32, buf: &mut [u8], at: usize) -> usize
-    requires { IsOpen b.now z × (c < count b.now) × (d < count b.now) × (at + length (branches b.now c d) ≤ length buf.old) }
-    ensures { Put buf.old at (branches b.now c d) buf.new result }
+pub fn put_branches(row: &Routine<'_>, c: u32, d: u32, page: &mut Page<'_>)
+    requires { (c < count row.now) × (d < count row.now) × Fits page.old (branches row.now c d) }
+    ensures { Puts page.old (branches row.now c d) page.new }
 {
-    let p = put_bytes(b" then ", buf, at);
-    let q = put_tree(b, z, c, buf, p);
-    let r = put_bytes(b" else ", buf, q);
-    let t = put_tree(b, z, d, buf, r);
-    put_byte(41, buf, t)
+    page.text(b" then ");
+    put_tree(row, c, page);
+    page.text(b" else ");
+    put_tree(row, d, page);
+    page.byte(b')');
 }
 
 #[cycle(put_branches_put_closed_put_if_put_opened_put_tree_put_while)]
-fn put_if(b: &[u8], z: Sizes, i: u32, buf: &mut [u8], at: usize) -> usize
-    requires { IsOpen b.now z × (i < count b.now) × (at + length (text_at b.now i) ≤ length buf.old) × (form_at b.now i ≡ Form.If) }
-    ensures { Put buf.old at (text_at b.now i) buf.new result }
+fn put_if(row: &Routine<'_>, i: u32, page: &mut Page<'_>)
+    requires { (i < count row.now) × Fits page.old (text_at row.now i) × (form_at row.now i ≡ Form.If) }
+    ensures { Puts page.old (text_at row.now i) page.new }
 {
-    let p = put_bytes(b"(if ", buf, at);
-    let q = put_tree(b, z, routine::first_at(b, z, i), buf, p);
-    let c = routine::second_at(b, z, i);
-    put_branches(b, z, c, routine::third_at(b, z, i), buf, q)
+    let test = row.first(i);
+    page.text(b"(if ");
+    put_tree(row, test, page);
+    put_branches(row, row.second(i), row.third(i), page);
 }
 
 #[cycle(put_branches_put_closed_put_if_put_opened_put_tree_put_while)]
-fn put_while(b: &[u8], z: Sizes, i: u32, buf: &mut [u8], at: usize) -> usize
-    requires { IsOpen b.now z × (i < count b.now) × (at + length (text_at b.now i) ≤ length buf.old) × (form_at b.now i ≡ Form.While) }
-    ensures { Put buf.old at (text_at b.now i) buf.new result }
+fn put_while(row: &Routine<'_>, i: u32, page: &mut Page<'_>)
+    requires { (i < count row.now) × Fits page.old (text_at row.now i) × (form_at row.now i ≡ Form.While) }
+    ensures { Puts page.old (text_at row.now i) page.new }
 {
-    let p = put_bytes(b"(while ", buf, at);
-    let q = put_tree(b, z, routine::first_at(b, z, i), buf, p);
-    let r = put_bytes(b" do ", buf, q);
-    let s = put_tree(b, z, routine::second_at(b, z, i), buf, r);
-    put_bytes(b" done)", buf, s)
+    let test = row.first(i);
+    page.text(b"(while ");
+    put_tree(row, test, page);
+    page.text(b" do ");
+    put_tree(row, row.second(i), page);
+    page.text(b" done)");
 }
 
 // The text of node i. The pieces stand as constants in the arms: handed on as a slice each would be a loop of bytes.
 #[cycle(put_branches_put_closed_put_if_put_opened_put_tree_put_while)]
-pub fn put_tree(b: &[u8], z: Sizes, i: u32, buf: &mut [u8], at: usize) -> usize
-    requires { IsOpen b.now z × (i < count b.now) × (at + length (text_at b.now i) ≤ length buf.old) }
-    ensures { Put buf.old at (text_at b.now i) buf.new result }
+pub fn put_tree(row: &Routine<'_>, i: u32, page: &mut Page<'_>)
+    requires { (i < count row.now) × Fits page.old (text_at row.now i) }
+    ensures { Puts page.old (text_at row.now i) page.new }
 {
-    match routine::form_at(b, z, i) {
-        Form::Integer => put_number(routine::integer_at(b, z, i), buf, at),
-        Form::Boolean => put_truth(routine::arg_at(b, z, i) == 1, buf, at),
+    match row.form(i) {
+        Form::Integer => page.number(row.integer(i)),
+        Form::Boolean => page.truth(row.arg(i) == 1),
         Form::Plus => {
-            let p = put_opened(b, z, routine::first_at(b, z, i), buf, at);
-            let q = put_bytes(b" + ", buf, p);
-            put_closed(b, z, routine::second_at(b, z, i), buf, q)
+            put_opened(row, row.first(i), page);
+            page.text(b" + ");
+            put_closed(row, row.second(i), page);
         }
         Form::Geq => {
-            let p = put_opened(b, z, routine::first_at(b, z, i), buf, at);
-            let q = put_bytes(b" >= ", buf, p);
-            put_closed(b, z, routine::second_at(b, z, i), buf, q)
+            put_opened(row, row.first(i), page);
+            page.text(b" >= ");
+            put_closed(row, row.second(i), page);
         }
-        Form::If => put_if(b, z, i, buf, at),
+        Form::If => put_if(row, i, page),
         Form::Assign => {
-            let p = put_assigned(routine::arg_at(b, z, i) as u64, buf, at);
-            put_closed(b, z, routine::first_at(b, z, i), buf, p)
+            put_assigned(u64::from(row.arg(i)), page);
+            put_closed(row, row.first(i), page);
         }
-        Form::Deref => put_deref(routine::arg_at(b, z, i) as u64, buf, at),
-        Form::Skip => put_bytes(b"skip", buf, at),
+        Form::Deref => put_deref(u64::from(row.arg(i)), page),
+        Form::Skip => page.text(b"skip"),
         Form::Seq => {
-            let p = put_opened(b, z, routine::first_at(b, z, i), buf, at);
-            let q = put_bytes(b" ; ", buf, p);
-            put_closed(b, z, routine::second_at(b, z, i), buf, q)
+            put_opened(row, row.first(i), page);
+            page.text(b" ; ");
+            put_closed(row, row.second(i), page);
         }
-        Form::While => put_while(b, z, i, buf, at),
-        Form::Unknown => at,
+        Form::While => put_while(row, i, page),
+        Form::Unknown => {}
     }
 }
 
-fn put_sign(s: Sign, buf: &mut [u8], at: usize) -> usize
-    requires { at + length (sign_text s) ≤ length buf.old }
-    ensures { Put buf.old at (sign_text s) buf.new result }
+fn put_sign(s: Sign, page: &mut Page<'_>)
+    requires { Fits page.old (sign_text s) }
+    ensures { Puts page.old (sign_text s) page.new }
 {
     match s {
-        Sign::Plus => put_bytes(b" + ", buf, at),
-        Sign::Geq => put_bytes(b" >= ", buf, at),
-        Sign::Seq => put_bytes(b" ; ", buf, at),
+        Sign::Plus => page.text(b" + "),
+        Sign::Geq => page.text(b" >= "),
+        Sign::Seq => page.text(b" ; "),
     }
 }
 
 // A sign, what is to the right of it, and the bracket that closes both.
-pub fn put_right(b: &[u8], z: Sizes, s: Sign, c: u32, buf: &mut [u8], at: usize) -> usize
-    requires { IsOpen b.now z × (c < count b.now) × (at + length (sign_text s ++ text_at b.now c ++ bytes ")") ≤ length buf.old) }
-    ensures { Put buf.old at (sign_text s ++ text_at b.now c ++ bytes ")") buf.new result }
+pub fn put_right(row: &Routine<'_>, s: Sign, c: u32, page: &mut Page<'_>)
+    requires { (c < count row.now) × Fits page.old (sign_text s ++ text_at row.now c ++ bytes ")") }
+    ensures { Puts page.old (sign_text s ++ text_at row.now c ++ bytes ")") page.new }
 {
-    let p = put_sign(s, buf, at);
-    let q = put_tree(b, z, c, buf, p);
-    put_byte(41, buf, q)
+    put_sign(s, page);
+    put_tree(row, c, page);
+    page.byte(b')');
 }
 
 // What a table holds of node j.
@@ -281,49 +283,46 @@ pub fn length_in(lengths: &[u32], j: u32) -> usize
 }
 
 // The lengths of the first two children's texts, together.
-fn two_lengths(b: &[u8], z: Sizes, i: u32, lengths: &[u32]) -> usize
-    requires { IsOpen b.now z × (i < count b.now) × (count b.now ≤ length lengths.now) × LengthsOf b.now i lengths.now × (child1 b.now i < i) × (child2 b.now i < i) }
-    ensures { (result ≡ length (text_at b.now (child1 b.now i)) + length (text_at b.now (child2 b.now i))) × (result < 8589934592) }
+fn two_lengths(row: &Routine<'_>, i: u32, lengths: &[u32]) -> usize
+    requires { (i < count row.now) × (count row.now ≤ length lengths.now) × LengthsOf row.now i lengths.now × (child1 row.now i < i) × (child2 row.now i < i) }
+    ensures { (result ≡ length (text_at row.now (child1 row.now i)) + length (text_at row.now (child2 row.now i))) × (result ≤ 327680) }
 {
-    let first = length_in(lengths, routine::first_at(b, z, i));
-    first + length_in(lengths, routine::second_at(b, z, i))
+    let first = length_in(lengths, row.first(i));
+    first + length_in(lengths, row.second(i))
 }
 
 // The length of node i's text; the table holds those of the nodes before it.
-fn node_length(b: &[u8], z: Sizes, i: u32, lengths: &[u32]) -> usize
-    requires { IsOpen b.now z × (i < count b.now) × (count b.now ≤ length lengths.now) × LengthsOf b.now i lengths.now }
-    ensures { (result ≡ length (text_at b.now i)) × (result < 4294967296) }
+fn node_length(row: &Routine<'_>, i: u32, lengths: &[u32]) -> usize
+    requires { (i < count row.now) × (count row.now ≤ length lengths.now) × LengthsOf row.now i lengths.now }
+    ensures { (result ≡ length (text_at row.now i)) × (result < 4294967296) }
 {
-    match routine::form_at(b, z, i) {
-        Form::Integer => number_width(routine::integer_at(b, z, i)),
-        Form::Boolean => truth_width(routine::arg_at(b, z, i) == 1),
-        Form::Plus => 5 + two_lengths(b, z, i, lengths),
-        Form::Geq => 6 + two_lengths(b, z, i, lengths),
+    match row.form(i) {
+        Form::Integer => number_width(row.integer(i)),
+        Form::Boolean => truth_width(row.arg(i) == 1),
+        Form::Plus => 5 + two_lengths(row, i, lengths),
+        Form::Geq => 6 + two_lengths(row, i, lengths),
         Form::If => {
-            let t = two_lengths(b, z, i, lengths);
-            17 + t + length_in(lengths, routine::third_at(b, z, i))
+            let t = two_lengths(row, i, lengths);
+            17 + t + length_in(lengths, row.third(i))
         }
         Form::Assign => {
-            let w = width(routine::arg_at(b, z, i) as u64);
-            7 + w + length_in(lengths, routine::first_at(b, z, i))
+            let w = width(u64::from(row.arg(i)));
+            7 + w + length_in(lengths, row.first(i))
         }
-        Form::Deref => 2 + width(routine::arg_at(b, z, i) as u64),
+        Form::Deref => 2 + width(u64::from(row.arg(i))),
         Form::Skip => 4,
-        Form::Seq => 5 + two_lengths(b, z, i, lengths),
-        Form::While => 17 + two_lengths(b, z, i, lengths),
+        Form::Seq => 5 + two_lengths(row, i, lengths),
+        Form::While => 17 + two_lengths(row, i, lengths),
         Form::Unknown => 0,
     }
 }
 
 // Fills the table with the lengths of all texts, in one pass.
-pub fn measure(b: &[u8], z: Sizes, lengths: &mut [u32])
-    requires { IsOpen b.now z × (count b.now ≤ length lengths.old) }
-    ensures { Filled b.now (count b.now) lengths.old lengths.new }
+pub fn measure(row: &Routine<'_>, lengths: &mut [u32])
+    requires { count row.now ≤ length lengths.old }
+    ensures { Filled row.now (count row.now) lengths.old lengths.new }
 {
-    let n = z.nodes;
-    let mut i = 0;
-    while i < n {
-        lengths[i] = node_length(b, z, i as u32, lengths) as u32;
-        i += 1;
+    for i in 0..row.nodes() {
+        lengths[i] = node_length(row, i as u32, lengths) as u32;
     }
 }

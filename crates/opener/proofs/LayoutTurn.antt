@@ -1,70 +1,84 @@
--- A turn of the layout's loop: what is known of the nodes passed, of the next one, and at the end.
-use Prim.Native.Nat.{ℕ, ◌+◌, ◌-◌, ◌/◌, ◌%◌, ◌<◌, min}
+-- A turn of the layout's loop: what is told of the next node, by what the table tells of the nodes passed; and what the table tells at the end.
+use Prim.Native.Nat.{ℕ, ◌+◌, ◌-◌, ◌≤◌, ◌<◌, min}
 use native.Mathlib.Omega.{arith}
-use mathlib.Core.Path.{◌≡◌, refl}
-use mathlib.Core.Bool.{Bool, true, false}
+use mathlib.Core.Path.{◌≡◌, sym, ◌∙◌}
+use mathlib.Core.Bool.{true, false}
 use mathlib.Core.List.{List}
 use lib.ListN.{length, get_or, set}
 use lib.Seq.{get_or-set_same, get_or-set_other}
 use borrow.Author.Count.{below_more}
 use Rattle.l1.specs.Syntax.{Expr}
-use Rattle.l1.specs.Measures.{size, places}
+use Rattle.l1.proofs.Clash.{clash}
 use Rattle.l1.proofs.Places.{places_below_size}
-use Rattle.stored.specs.Layout.{kind, arg, child1, child2, child3, TreeAt}
+use Rattle.stored.specs.Layout.{arg, TreeAt}
 use Rattle.stored.specs.Reader.{tree_at, StandBelow}
-use Rattle.stored.specs.Refusals.{count}
-use Rattle.routine.specs.Forms.{form_of, node_of}
-use Rattle.routine.specs.Masks.{Covers, under}
-use Rattle.opener.specs.Shapes.{keeps_node, word_at}
-use Rattle.opener.proofs.NodeTrees.{WordOf, WordsOf, some_word, word_by_lem, stands_keeps, keeps_stands}
+use Rattle.stored.specs.Refusals.{locations, count}
+use Rattle.stored.specs.Stages.{no}
+use Rattle.stored.specs.Headed.{Headed}
+use Rattle.stored.specs.Answers.{refuses, opens, Opening}
+use Rattle.routine.specs.Forms.{node_of}
+use Rattle.routine.specs.declared.Node.{Node}
+use Rattle.opener.specs.Shapes.{keeps_node, places_by}
+use Rattle.opener.specs.Subtrees.{Tells, unset, Passed}
+use Rattle.opener.specs.Tables.{Covers, under}
+use Rattle.opener.specs.declared.Subtree.{Subtree}
+use Rattle.opener.proofs.NodeTrees.{TellsOf, low_by, told_by, stands_keeps, keeps_stands}
+use Rattle.opener.proofs.Order.{first_8, first_9, opens_whole}
 
--- a tree stands at node j, and the table holds its word
-pub record Passed (b words : List ℕ) (j : ℕ) : Type 0 where
-  pub stands : TreeAt b j (tree_at b j)
-  pub held : WordOf j (tree_at b j) (get_or words j 0)
+module _ {b : List ℕ} {table : List Subtree} {i : ℕ}
+    (past : (j : ℕ) → j < i → Passed b table j) (low : Covers (length table) i) (small : arg b i < 256)
+    {d : Node} {p q r : Subtree} (its : d ≡ node_of b i)
+    (first : (none : Subtree) → p ≡ under none table d.first)
+    (second : (none : Subtree) → q ≡ under none table d.second)
+    (third : (none : Subtree) → r ≡ under none table d.third) where
+  tells : TellsOf b i (under unset table)
+  tells j l = rw (low j l) (past j l).held
 
-module _ (b words : List ℕ) (i mask : ℕ) (past : (j : ℕ) → j < i → Passed b words j) (low : Covers mask i) where
-  table : WordsOf b i (under mask words)
-  table j l = rw (low j l) (past j l).held
+  pub breaks : keeps_node d i q.low r.low ≡ false → (e : Expr) → ¬ TreeAt b i e
+  breaks h e t =
+      let a : min (arg b i) 255 ≡ arg b i = omega arith in
+      clash (sym (rw (second unset, third unset, its) at h) ∙ rw a at (stands_keeps b (under unset table) tells t))
 
-  keeps : Bool
-  keeps = keeps_node (node_of b i) i (under mask words (child2 b i) % 65536) (under mask words (child3 b i) % 65536)
+  module _ (h : keeps_node d i q.low r.low ≡ true) where
+    stands : TreeAt b i (tree_at b i)
+    stands = keeps_stands b (λ j l. (past j l).stands) (under unset table) tells (arg b i) (omega arith) (rw (second unset, third unset, its) at h)
 
-  -- a tree stands at the next node, of this word, which has room in the table
-  pub next_stands : (k : ℕ) → i < 4096 → k ≡ word_at b i (under mask words) → ¬ (k ≡ 0)
-      → TreeAt b i (tree_at b i) × WordOf i (tree_at b i) k × (k < 4294967296)
-  unfolding word_at keeps
-  next_stands k few e some = go keeps refl
-    where
-      go : (t : Bool) → keeps ≡ t → TreeAt b i (tree_at b i) × WordOf i (tree_at b i) k × (k < 4294967296)
-      go true h =
-          let t = keeps_stands b (λ j l. (past j l).stands) (under mask words) table (arg b i) (omega arith) h in
-          let w : WordOf i (tree_at b i) k = rw (rw h at e) (word_by_lem b _ table (omega arith) t) in
-          (t, w, omega (arith, w.low, w.holds, places_below_size (tree_at b i)))
-      go false h = absurd (some (rw h at e))
+    told : Tells i (tree_at b i) (record { low = low_by d.form i p.low; places = places_by d.form p.places q.places r.places })
+    told =
+        let t = told_by b (under unset table) tells stands in
+        rw (first unset, second unset, third unset, its) (record { its_low = t.0; its_places = t.1 })
 
-  pub next_breaks : (k : ℕ) → arg b i < 256 → k ≡ word_at b i (under mask words) → k ≡ 0 → (e : Expr) → ¬ TreeAt b i e
-  unfolding word_at keeps
-  next_breaks k a h none e t =
-      let small : min (arg b i) 255 ≡ arg b i = omega arith in
-      let kept : keeps ≡ true = rw small at (stands_keeps b (under mask words) table t) in
-      omega (arith, rw kept at h, some_word (form_of (kind b i)) i (under mask words (child1 b i)) (under mask words (child2 b i)) (under mask words (child3 b i)))
+    pub few_places : places_by d.form p.places q.places r.places ≤ i
+    few_places = omega (arith, told.its_low, told.its_places, places_below_size (tree_at b i))
 
-  pub next_passed : (k : ℕ) → i < length words → TreeAt b i (tree_at b i) → WordOf i (tree_at b i) k
-      → (j : ℕ) → j < i + 1 → Passed b (set words i k) j
-  next_passed k l t w =
-      below_more _ _
-      (λ j h. record { stands = (past j h).stands; held = rw (get_or-set_other words i j k 0 (omega arith)) (past j h).held })
-      (record { stands = t; held = rw (get_or-set_same words i k 0 l) w })
+    -- the table with the node's own entry tells of it too
+    pub passes : (t : Subtree) → t.low ≡ low_by d.form i p.low → t.places ≡ places_by d.form p.places q.places r.places → i < length table
+        → (j : ℕ) → j < i + 1 → Passed b (set table i t) j
+    passes t l n room =
+        below_more _ _
+        (λ j m. record { stands = (past j m).stands; held = rw (get_or-set_other table i j t unset (omega arith)) (past j m).held })
+        (record {
+          stands = stands;
+          held = rw (get_or-set_same table i t unset room) (record { its_low = rw l told.its_low; its_places = rw n told.its_places });
+        })
 
--- all n nodes are passed
-module _ (b words : List ℕ) (n : ℕ) (past : (j : ℕ) → j < n → Passed b words j) (all : n ≡ count b) (some : 0 < n) where
-  root : WordOf (n - 1) (tree_at b (n - 1)) (get_or words (n - 1) 0)
-  root = (past (n - 1) (omega arith)).held
+-- all nodes are passed: what the root's entry tells
+module _ {b : List ℕ} {n i : ℕ} (head : Headed b) (all : n ≡ count b) (past_all : n ≤ i) (table : List Subtree)
+    (past : (j : ℕ) → j < i → Passed b table j) where
+  abbrev root : Subtree
+  root = get_or table (n - 1) unset
 
-  pub forest : ¬ (get_or words (n - 1) 0 % 65536 ≡ 0) → StandBelow b (count b) × (size (tree_at b (count b - 1)) < count b)
-  forest e = rw (← all) ((λ j l. (past j l).stands), omega (arith, root.low))
+  stand : StandBelow b (count b)
+  stand j l = (past j (omega arith)).stands
 
-  pub whole : get_or words (n - 1) 0 % 65536 ≡ 0
-      → StandBelow b (count b) × (size (tree_at b (count b - 1)) ≡ count b) × (get_or words (n - 1) 0 / 65536 ≡ 1 + places (tree_at b (count b - 1)))
-  whole e = rw (← all) ((λ j l. (past j l).stands), omega (arith, root.low), root.holds)
+  its_root : Tells (count b - 1) (tree_at b (count b - 1)) root
+  its_root = rw all (past (count b - 1) (omega (arith, head.some_nodes))).held
+
+  pub parted : ¬ (root.low ≡ 0) → Opening b (refuses (no 8))
+  parted l = first_8 b head stand (omega (arith, its_root.its_low))
+
+  pub crowded : root.low ≡ 0 → 256 < root.places → Opening b (refuses (no 9))
+  crowded l p = first_9 b head stand (omega (arith, its_root.its_low, head.some_nodes)) (omega (arith, its_root.its_places))
+
+  pub whole : root.low ≡ 0 → root.places ≤ 256 → Opening b (opens (locations b) (count b))
+  whole l p = opens_whole b head stand (omega (arith, its_root.its_low, head.some_nodes)) (omega (arith, its_root.its_places))

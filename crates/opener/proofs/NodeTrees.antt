@@ -1,6 +1,6 @@
--- A node keeps the layout exactly where a tree stands at it, trees standing at the nodes before it; and the tree's word comes from those of its
--- children, which a table of the nodes before it holds.
-use Prim.Native.Nat.{ℕ, zero, suc, ◌+◌, ◌*◌, ◌/◌, ◌%◌, ◌≤◌, ◌<◌, min, max}
+-- A node keeps the layout exactly where a tree stands at it, trees standing at the nodes before it; and what is told of the tree comes from what
+-- a table tells of its children.
+use Prim.Native.Nat.{ℕ, zero, suc, ◌+◌, ◌≤◌, ◌<◌, min, max}
 use native.Mathlib.Omega.{arith}
 use mathlib.Core.Path.{◌≡◌, refl}
 use mathlib.Core.Bool.{Bool, true, false, ◌&&◌, cond}
@@ -8,7 +8,7 @@ use mathlib.Core.List.{List}
 use lib.Dec.{eqb, leb}
 use borrow.Author.Tests.{eqb-true, eqb-false, leb-true, eq-eqb, le-leb}
 use Rattle.l1.proofs.Clash.{clash}
-use Rattle.l1.specs.Syntax.{plus, geq, Expr}
+use Rattle.l1.specs.Syntax.{plus, geq, Expr, ◌‹◌#◌›◌, if◌then'◌else◌, ◌:=◌, ◌⨾◌, while◌do'◌done}
 use Rattle.l1.specs.Measures.{size, places}
 use Rattle.l1.proofs.Places.{places_below_size}
 use Rattle.stored.specs.Layout.{kind, arg, child1, child2, child3, NodeIs, TreeAt}
@@ -17,7 +17,9 @@ use Rattle.stored.specs.Reader.{tree_at, StandBelow}
 use Rattle.stored.proofs.Reader.{read_tree_lem}
 use Rattle.routine.specs.declared.Form.{Form}
 use Rattle.routine.specs.Forms.{form_of}
-use Rattle.opener.specs.Shapes.{Shape, Leaf, Number, One, Two, Three, Nothing, shape_of, children_of, is_inside, arg_top, placed, word_by}
+use Rattle.opener.specs.Shapes.{Shape, Leaf, Number, One, Two, Three, Nothing, shape_of, children_of, arg_top, placed, places_by}
+use Rattle.opener.specs.Subtrees.{Tells}
+use Rattle.opener.specs.declared.Subtree.{Subtree}
 
 pub both : (a b : Bool) → a && b ≡ true → (a ≡ true) × (b ≡ true)
 both true b e = (refl, e)
@@ -53,99 +55,86 @@ bit a h = go (eqb a 1) refl
     go true e = eqb-true a 1 e
     go false e = omega (arith, eqb-false a 1 e)
 
--- w is the word of the tree e at node j: with e's nodes the lowest of them makes up those to j, and it holds e's places
-pub record WordOf (j : ℕ) (e : Expr) (w : ℕ) : Type 0 where
-  pub low : w % 65536 + size e ≡ j + 1
-  pub holds : w / 65536 ≡ 1 + places e
-
--- s is a table of the words of the trees at the nodes before i
-abbrev pub WordsOf : List ℕ → ℕ → (ℕ → ℕ) → Type 0
-WordsOf b i s = (j : ℕ) → j < i → WordOf j (tree_at b j) (s j)
+-- s tells of the trees at the nodes before i
+abbrev pub TellsOf : List ℕ → ℕ → (ℕ → Subtree) → Type 0
+TellsOf b i s = (j : ℕ) → j < i → Tells j (tree_at b j) (s j)
 
 -- `keeps_node` of node i, with a for its byte 1
-abbrev pub keeps_by : List ℕ → ℕ → (ℕ → ℕ) → ℕ → Bool
+abbrev pub keeps_by : List ℕ → ℕ → (ℕ → Subtree) → ℕ → Bool
 keeps_by b i s a =
-    placed (shape_of (form_of (kind b i))) i (child1 b i) (child2 b i) (child3 b i) (s (child2 b i) % 65536) (s (child3 b i) % 65536)
+    placed (shape_of (form_of (kind b i))) i (child1 b i) (child2 b i) (child3 b i) (s (child2 b i)).low (s (child3 b i)).low
     && leb a (arg_top (form_of (kind b i)))
 
--- the word of a node with children tells the lowest node of the first, and the most places, with one more for a part inside
-joined : (p q r : ℕ)
-    → let w = p % 65536 + 65536 * (max q (max (65536 + p) r) / 65536) in
-    (w % 65536 ≡ p % 65536) × (w / 65536 ≡ max (q / 65536) (max (1 + p / 65536) (r / 65536)))
-joined p q r = (omega arith, omega arith)
+-- the lowest node of the subtree of node i, of a form whose first child has p
+abbrev pub low_by : Form → ℕ → ℕ → ℕ
+low_by f i p = cond (leb 1 (children_of (shape_of f))) p i
 
-pub some_word : (f : Form) (i p q r : ℕ) → 0 < word_by f i p q r
-some_word f i p q r = go (leb 1 (children_of (shape_of f)))
-  where
-    go : (t : Bool) → 0 < cond t (p % 65536 + 65536 * (max (cond (is_inside f) 65536 0 + q) (max (65536 + p) r) / 65536)) (65536 + i)
-    go true = omega arith
-    go false = omega arith
-
-leaf_word : {i : ℕ} {e : Expr} → i < 65536 → size e ≡ 1 → places e ≡ 0 → WordOf i e (65536 + i)
-leaf_word few one none = record { low = omega arith; holds = omega arith }
-
-module _ (b : List ℕ) (s : ℕ → ℕ) {i : ℕ} (h : WordsOf b i s) where
-  held : {x : ℕ} {e : Expr} → TreeAt b x e → x < i → WordOf x e (s x)
+module _ (b : List ℕ) (s : ℕ → Subtree) {i : ℕ} (h : TellsOf b i s) where
+  held : {x : ℕ} {e : Expr} → TreeAt b x e → x < i → Tells x e (s x)
   held {x} {e} t l = let q : tree_at b x ≡ e = read_tree_lem b (x + 1) t (omega arith) in rw q at (h x l)
 
   -- where a node has no child, node 0 is read, which has no places
-  none_there : 0 < i → s 0 / 65536 ≡ 1
-  none_there l = let w = h 0 l in omega (arith, w.low, w.holds, places_below_size (tree_at b 0))
+  none_there : 0 < i → (s 0).places ≡ 0
+  none_there l = let w = h 0 l in omega (arith, w.its_low, w.its_places, places_below_size (tree_at b 0))
 
-  one_by : {x : ℕ} {e₁ e : Expr} → TreeAt b x e₁ → x + 1 ≡ i → size e ≡ 1 + size e₁ → places e ≡ 1 + places e₁
-      → WordOf i e (s x % 65536 + 65536 * (max (0 + s 0) (max (65536 + s x) (s 0)) / 65536))
-  one_by {x} {e₁} t p n d =
+  -- l and p are the lowest node and the places of the tree e at node i
+  abbrev Told : Expr → ℕ → ℕ → Type 0
+  Told e l p = (l + size e ≡ i + 1) × (p ≡ places e)
+
+  one_by : (e : Expr) {x : ℕ} {e₁ : Expr} → TreeAt b x e₁ → x + 1 ≡ i → size e ≡ 1 + size e₁ → places e ≡ 1 + places e₁
+      → Told e (s x).low (max (max ((s x).places + 1) (s 0).places) ((s 0).places + 0))
+  one_by e t p n d =
       let w = held t (omega arith) in
-      let j = joined (s x) (0 + s 0) (s 0) in
       let f = none_there (omega arith) in
-      record { low = omega (arith, w.low); holds = omega (arith, w.holds) }
+      (omega (arith, w.its_low), omega (arith, w.its_places))
 
-  -- v is the second part's word, with c more where that is inside the form
-  two_by : (v c : ℕ) {x y : ℕ} {e₁ e₂ e : Expr} → v / 65536 ≡ s y / 65536 + c → TreeAt b x e₁ → TreeAt b y e₂ → y + 1 ≡ i → x + size e₂ ≡ y
+  -- with c more for the second part where that is inside the form
+  two_by : (e : Expr) (c : ℕ) {x y : ℕ} {e₁ e₂ : Expr} → TreeAt b x e₁ → TreeAt b y e₂ → y + 1 ≡ i → x + size e₂ ≡ y
       → size e ≡ 1 + size e₁ + size e₂ → places e ≡ max (places e₁ + 1) (places e₂ + c)
-      → WordOf i e (s x % 65536 + 65536 * (max v (max (65536 + s x) (s 0)) / 65536))
-  two_by v c {x} {y} z t₁ t₂ p q n d =
+      → Told e (s x).low (max (max ((s x).places + 1) (s 0).places) ((s y).places + c))
+  two_by e c t₁ t₂ p q n d =
       let w₁ = held t₁ (omega arith) in
       let w₂ = held t₂ (omega arith) in
-      let j = joined (s x) v (s 0) in
       let f = none_there (omega arith) in
-      record { low = omega (arith, w₁.low); holds = omega (arith, w₁.holds, w₂.holds) }
+      (omega (arith, w₁.its_low), omega (arith, w₁.its_places, w₂.its_places))
 
-  three_by : {x y z : ℕ} {e₁ e₂ e₃ e : Expr} → TreeAt b x e₁ → TreeAt b y e₂ → TreeAt b z e₃
+  three_by : (e : Expr) {x y z : ℕ} {e₁ e₂ e₃ : Expr} → TreeAt b x e₁ → TreeAt b y e₂ → TreeAt b z e₃
       → z + 1 ≡ i → y + size e₃ ≡ z → x + size e₂ ≡ y
       → size e ≡ 1 + size e₁ + size e₂ + size e₃ → places e ≡ max (places e₁ + 1) (max (places e₂) (places e₃))
-      → WordOf i e (s x % 65536 + 65536 * (max (0 + s y) (max (65536 + s x) (s z)) / 65536))
-  three_by {x} {y} {z} t₁ t₂ t₃ p q r n d =
+      → Told e (s x).low (max (max ((s x).places + 1) (s z).places) ((s y).places + 0))
+  three_by e t₁ t₂ t₃ p q r n d =
       let w₁ = held t₁ (omega arith) in
       let w₂ = held t₂ (omega arith) in
       let w₃ = held t₃ (omega arith) in
-      let j = joined (s x) (0 + s y) (s z) in
-      record { low = omega (arith, w₁.low); holds = omega (arith, w₁.holds, w₂.holds, w₃.holds) }
+      (omega (arith, w₁.its_low), omega (arith, w₁.its_places, w₂.its_places, w₃.its_places))
 
-  -- the word of a tree, from those of its children
-  pub word_by_lem : {e : Expr} → i < 65536 → TreeAt b i e
-      → WordOf i e (word_by (form_of (kind b i)) i (s (child1 b i)) (s (child2 b i)) (s (child3 b i)))
-  word_by_lem few (at_int n v) = rw n.its_kind (leaf_word few refl refl)
-  word_by_lem few (at_bool n) = rw n.its_kind (leaf_word few refl refl)
-  word_by_lem few (at_op {o = plus} {y = y} n p q t₁ t₂) =
-      rw (n.its_kind, n.its_first, n.its_second, n.its_third) (two_by (65536 + s y) 1 (omega arith) t₁ t₂ p q refl (omega arith))
-  word_by_lem few (at_op {o = geq} {y = y} n p q t₁ t₂) =
-      rw (n.its_kind, n.its_first, n.its_second, n.its_third) (two_by (65536 + s y) 1 (omega arith) t₁ t₂ p q refl (omega arith))
-  word_by_lem few (at_if n p q r t₁ t₂ t₃) = rw (n.its_kind, n.its_first, n.its_second, n.its_third) (three_by t₁ t₂ t₃ p q r refl refl)
-  word_by_lem few (at_assign n p t) = rw (n.its_kind, n.its_first, n.its_second, n.its_third) (one_by t p refl refl)
-  word_by_lem few (at_deref n) = rw n.its_kind (leaf_word few refl refl)
-  word_by_lem few (at_skip n) = rw n.its_kind (leaf_word few refl refl)
-  word_by_lem few (at_seq {y = y} n p q t₁ t₂) =
-      rw (n.its_kind, n.its_first, n.its_second, n.its_third) (two_by (0 + s y) 0 (omega arith) t₁ t₂ p q refl (omega arith))
-  word_by_lem few (at_while {y = y} n p q t₁ t₂) =
-      rw (n.its_kind, n.its_first, n.its_second, n.its_third) (two_by (65536 + s y) 1 (omega arith) t₁ t₂ p q refl (omega arith))
+  -- what is told of a tree, from what is told of its children
+  pub told_by : {e : Expr} → TreeAt b i e
+      → Told e (low_by (form_of (kind b i)) i (s (child1 b i)).low)
+      (places_by (form_of (kind b i)) (s (child1 b i)).places (s (child2 b i)).places (s (child3 b i)).places)
+  told_by (at_int n v) = rw n.its_kind (refl, refl)
+  told_by (at_bool n) = rw n.its_kind (refl, refl)
+  told_by (at_op {o = plus} {e₁ = e₁} {e₂ = e₂} n p q t₁ t₂) =
+      rw (n.its_kind, n.its_first, n.its_second, n.its_third) (two_by (e₁ ‹ plus # i › e₂) 1 t₁ t₂ p q refl (omega arith))
+  told_by (at_op {o = geq} {e₁ = e₁} {e₂ = e₂} n p q t₁ t₂) =
+      rw (n.its_kind, n.its_first, n.its_second, n.its_third) (two_by (e₁ ‹ geq # i › e₂) 1 t₁ t₂ p q refl (omega arith))
+  told_by (at_if {e₁ = e₁} {e₂ = e₂} {e₃ = e₃} n p q r t₁ t₂ t₃) =
+      rw (n.its_kind, n.its_first, n.its_second, n.its_third) (three_by (if e₁ then' e₂ else e₃) t₁ t₂ t₃ p q r refl refl)
+  told_by (at_assign {l = l} {e = e} n p t) =
+      rw (n.its_kind, n.its_first, n.its_second, n.its_third) (one_by (l := e) t p refl refl)
+  told_by (at_deref n) = rw n.its_kind (refl, refl)
+  told_by (at_skip n) = rw n.its_kind (refl, refl)
+  told_by (at_seq {e₁ = e₁} {e₂ = e₂} n p q t₁ t₂) =
+      rw (n.its_kind, n.its_first, n.its_second, n.its_third) (two_by (e₁ ⨾ e₂) 0 t₁ t₂ p q refl (omega arith))
+  told_by (at_while {e₁ = e₁} {e₂ = e₂} n p q t₁ t₂) =
+      rw (n.its_kind, n.its_first, n.its_second, n.its_third) (two_by (while e₁ do' e₂ done) 1 t₁ t₂ p q refl (omega arith))
 
   -- the child before y stands right before y's subtree
-  before : (x : ℕ) {y : ℕ} {e : Expr} → y < i → x + size e ≡ y → TreeAt b y e → x + 1 ≡ s y % 65536
-  before x l q t = let w = held t l in omega (arith, w.low)
+  before : (x : ℕ) {y : ℕ} {e : Expr} → y < i → x + size e ≡ y → TreeAt b y e → x + 1 ≡ (s y).low
+  before x l q t = let w = held t l in omega (arith, w.its_low)
 
   two_kept : (x : ℕ) {y : ℕ} {e : Expr} → y + 1 ≡ i → x + size e ≡ y → TreeAt b y e
-      → eqb (y + 1) i && eqb (x + 1) (s y % 65536) && true && true ≡ true
+      → eqb (y + 1) i && eqb (x + 1) (s y).low && true && true ≡ true
   two_kept x p q t = rw (eq-eqb _ _ p, eq-eqb _ _ (before x (omega arith) q t))
 
   -- where a tree stands the node keeps the layout, a byte 1 past 255 being taken for 255
@@ -171,26 +160,26 @@ module _ (b : List ℕ) (s : ℕ → ℕ) {i : ℕ} (h : WordsOf b i s) where
       rw (n.its_kind, n.its_arg, n.its_first, n.its_second, n.its_third) (two_kept x p q t₂)
 
 -- a node that keeps the layout, by its kind
-module _ (b : List ℕ) {i : ℕ} (below : StandBelow b i) (s : ℕ → ℕ) (h : WordsOf b i s) where
+module _ (b : List ℕ) {i : ℕ} (below : StandBelow b i) (s : ℕ → Subtree) (h : TellsOf b i s) where
   standing : {e : Expr} → TreeAt b i e → TreeAt b i (tree_at b i)
   standing t = rw (read_tree_lem b (i + 1) t (omega arith)) t
 
   two_stand : {k : ℕ} {e : Expr} → kind b i ≡ k → min (arg b i) 255 ≤ 0
-      → Placed Two i (child1 b i) (child2 b i) (child3 b i) (s (child2 b i) % 65536) (s (child3 b i) % 65536)
+      → Placed Two i (child1 b i) (child2 b i) (child3 b i) (s (child2 b i)).low (s (child3 b i)).low
       → (NodeIs b i k 0 (child1 b i) (child2 b i) 0
       → child2 b i + 1 ≡ i → child1 b i + size (tree_at b (child2 b i)) ≡ child2 b i
       → TreeAt b (child1 b i) (tree_at b (child1 b i)) → TreeAt b (child2 b i) (tree_at b (child2 b i))
       → TreeAt b i e)
       → TreeAt b i (tree_at b i)
   two_stand k a p at =
-      let w = (h (child2 b i) (omega arith)).low in
+      let w = (h (child2 b i) (omega arith)).its_low in
       standing
       (at (record { its_kind = k; its_arg = omega arith; its_first = refl; its_second = refl; its_third = p.2 })
       p.0 (omega arith)
       (below (child1 b i) (omega arith)) (below (child2 b i) (omega arith)))
 
   by_kind : (k : ℕ) → kind b i ≡ k → min (arg b i) 255 ≤ arg_top (form_of k)
-      → Placed (shape_of (form_of k)) i (child1 b i) (child2 b i) (child3 b i) (s (child2 b i) % 65536) (s (child3 b i) % 65536)
+      → Placed (shape_of (form_of k)) i (child1 b i) (child2 b i) (child3 b i) (s (child2 b i)).low (s (child3 b i)).low
       → TreeAt b i (tree_at b i)
   by_kind zero k a p =
       standing (at_int (record { its_kind = k; its_arg = omega arith; its_first = p; its_second = refl; its_third = refl }) refl)
@@ -201,8 +190,8 @@ module _ (b : List ℕ) {i : ℕ} (below : StandBelow b i) (s : ℕ → ℕ) (h 
   by_kind (suc (suc zero)) k a p = two_stand k a p (at_op {o = plus})
   by_kind (suc (suc (suc zero))) k a p = two_stand k a p (at_op {o = geq})
   by_kind (suc (suc (suc (suc zero)))) k a p =
-      let v = (h (child3 b i) (omega arith)).low in
-      let w = (h (child2 b i) (omega arith)).low in
+      let v = (h (child3 b i) (omega arith)).its_low in
+      let w = (h (child2 b i) (omega arith)).its_low in
       standing
       (at_if (record { its_kind = k; its_arg = omega arith; its_first = refl; its_second = refl; its_third = refl })
       p.0 (omega arith) (omega arith)
@@ -223,6 +212,6 @@ module _ (b : List ℕ) {i : ℕ} (below : StandBelow b i) (s : ℕ → ℕ) (h 
   pub keeps_stands : (a : ℕ) → min (arg b i) 255 ≤ a → keeps_by b i s a ≡ true → TreeAt b i (tree_at b i)
   keeps_stands a l e =
       let F = form_of (kind b i) in
-      let c = both (placed (shape_of F) i (child1 b i) (child2 b i) (child3 b i) (s (child2 b i) % 65536) (s (child3 b i) % 65536)) (leb a (arg_top F)) e in
+      let c = both (placed (shape_of F) i (child1 b i) (child2 b i) (child3 b i) (s (child2 b i)).low (s (child3 b i)).low) (leb a (arg_top F)) e in
       by_kind (kind b i) refl (omega (arith, leb-true a (arg_top F) c.1))
-      (placed_true (shape_of F) i (child1 b i) (child2 b i) (child3 b i) (s (child2 b i) % 65536) (s (child3 b i) % 65536) c.0)
+      (placed_true (shape_of F) i (child1 b i) (child2 b i) (child3 b i) (s (child2 b i)).low (s (child3 b i)).low c.0)

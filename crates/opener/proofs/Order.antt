@@ -5,8 +5,10 @@ use mathlib.Core.Path.{◌≡◌, ap}
 use mathlib.Core.Logic.{inl, inr, ⊎_elim}
 use mathlib.Core.List.{List}
 use lib.ListN.{length, drop}
+use Rattle.l1.specs.Syntax.{Expr}
 use Rattle.l1.specs.Measures.{size, places}
 use Rattle.stored.specs.Bytes.{byte, pair}
+use Rattle.stored.specs.Layout.{TreeAt}
 use Rattle.stored.specs.Reader.{tree_at, StandBelow}
 use Rattle.stored.specs.Stages.{no, no_with, given, given_at}
 use Rattle.stored.specs.Refusals.{locations, count, Holds, opening}
@@ -14,8 +16,6 @@ use Rattle.stored.specs.Headed.{Headed}
 use Rattle.stored.specs.Answers.{refuses, opens, Opening, open_refuses, open_opens}
 use Rattle.stored.proofs.Reader.{holds_unique}
 use Rattle.stored.proofs.Stages.{when_silent, at_silent, passes_nothing, Past, past_none, past_more, first_now}
-use Rattle.opener.specs.Says.{LaidSays}
-use Rattle.opener.specs.declared.Laid.TheVariants.{Breaks, Forest, Crowded, Whole}
 
 -- the first k stages are silent
 abbrev Silent-to : List ℕ → ℕ → Type 0
@@ -71,8 +71,8 @@ module _ (b : List ℕ) where
     past_head =
         past_6 (omega arith) (omega arith) head.version head.few_locations (omega arith) head.few_nodes head.said_bytes
 
-    pub first_7 : {i : ℕ} → LaidSays b (Breaks i) → Opening b (refuses (no_with 7 i))
-    first_7 (l, stand, none) =
+    pub first_7 : {i : ℕ} → i < count b → StandBelow b i → ((e : Expr) → ¬ TreeAt b i e) → Opening b (refuses (no_with 7 i))
+    first_7 l stand none =
         open_refuses (first_now past_head (given_at (record { in_routine = l; lower_stand = λ j h. (tree_at b j, stand j h); none_stands = none })))
 
     module _ (stand : StandBelow b (count b)) where
@@ -82,6 +82,9 @@ module _ (b : List ℕ) where
       holds_root : Holds b (tree_at b (count b - 1))
       holds_root = record { root = count b - 1; is_last = omega arith; tree = stand (count b - 1) (omega arith) }
 
+      pub first_8 : size (tree_at b (count b - 1)) < count b → Opening b (refuses (no 8))
+      first_8 less = open_refuses (first_now past_7 (given (_, holds_root, less)))
+
       module _ (whole : size (tree_at b (count b - 1)) ≡ count b) where
         past_8 : Silent-to b 8
         past_8 = past_more past_7 (when_silent (λ (e, h, l). omega (arith, ap size (holds_unique b h holds_root))))
@@ -89,11 +92,8 @@ module _ (b : List ℕ) where
         past_9 : places (tree_at b (count b - 1)) ≤ 256 → Silent-to b 9
         past_9 p₉ = past_more past_8 (when_silent (λ (e, h, l). omega (arith, ap places (holds_unique b h holds_root))))
 
-    pub first_8 : LaidSays b Forest → Opening b (refuses (no 8))
-    first_8 (stand, less) = open_refuses (first_now (past_7 stand) (given (_, holds_root stand, less)))
+        pub first_9 : 256 < places (tree_at b (count b - 1)) → Opening b (refuses (no 9))
+        first_9 many = open_refuses (first_now past_8 (given (_, holds_root, many)))
 
-    pub first_9 : LaidSays b Crowded → Opening b (refuses (no 9))
-    first_9 (stand, whole, many) = open_refuses (first_now (past_8 stand whole) (given (_, holds_root stand, many)))
-
-    pub opens_whole : LaidSays b Whole → Opening b (opens (locations b) (count b))
-    opens_whole (stand, whole, low) = open_opens (record { passes = (past_9 stand whole low).passes passes_nothing }) (holds_root stand)
+        pub opens_whole : places (tree_at b (count b - 1)) ≤ 256 → Opening b (opens (locations b) (count b))
+        opens_whole low = open_opens (record { passes = (past_9 low).passes passes_nothing }) holds_root

@@ -1,33 +1,23 @@
--- What the head, the layout and opening say of the bytes, for each case of their answers.
-use Rattle.std.specs.Prelude.{ℕ, ◌-◌, ◌≤◌, ◌<◌, ◌≡◌, List}
-use Rattle.l1.specs.Syntax.{Expr}
-use Rattle.l1.specs.Measures.{size, places}
-use Rattle.stored.specs.Layout.{TreeAt}
-use Rattle.stored.specs.Reader.{tree_at, StandBelow}
-use Rattle.stored.specs.Refusals.{count}
+-- What the head, the layout and opening say of the bytes.
+use Rattle.std.specs.Prelude.{ℕ, List, Result, Ok, Err}
+use Rattle.stored.specs.Refusals.{locations, count}
 use Rattle.stored.specs.Answers as S
 use Rattle.stored.specs.Answers.{opens, Opening}
 use Rattle.stored.specs.Headed.{Headed}
 use Rattle.routine.specs.Says.{refusal_of}
 use Rattle.routine.specs.Open.{SizesOf}
-use Rattle.opener.specs.declared.Head.{Head}
-use Rattle.opener.specs.declared.Head.TheVariants as H
-use Rattle.opener.specs.declared.Laid.{Laid}
-use Rattle.opener.specs.declared.Laid.TheVariants.{Breaks, Forest, Crowded, Whole}
-use Rattle.opener.specs.declared.Opened.{Opened}
-use Rattle.opener.specs.declared.Opened.TheVariants as O
+use Rattle.routine.specs.declared.Refusal.{Refusal}
+use Rattle.routine.specs.declared.Sizes.{Sizes}
 
-abbrev pub HeadSays : List ℕ → Head → Type 0
-HeadSays b (H.Refused r) = Opening b (S.Opened.refuses (refusal_of r))
-HeadSays b (H.Good z) = Headed b × SizesOf b z
+abbrev pub HeadSays : List ℕ → Result Sizes Refusal → Type 0
+HeadSays b (Err r) = Opening b (S.Opened.refuses (refusal_of r))
+HeadSays b (Ok z) = Headed b × SizesOf b z
 
-abbrev pub LaidSays : List ℕ → Laid → Type 0
-LaidSays b (Breaks i) = (i < count b) × StandBelow b i × ((e : Expr) → ¬ TreeAt b i e)
-LaidSays b Forest = StandBelow b (count b) × (size (tree_at b (count b - 1)) < count b)
-LaidSays b Crowded = StandBelow b (count b) × (size (tree_at b (count b - 1)) ≡ count b) × (256 < places (tree_at b (count b - 1)))
-LaidSays b Whole = StandBelow b (count b) × (size (tree_at b (count b - 1)) ≡ count b) × (places (tree_at b (count b - 1)) ≤ 256)
+abbrev pub LaidSays : List ℕ → Result (Unit {0}) Refusal → Type 0
+LaidSays b (Err r) = Opening b (S.Opened.refuses (refusal_of r))
+LaidSays b (Ok u) = Opening b (opens (locations b) (count b))
 
--- the answer of opening, in 01's numbers
-abbrev pub opened_of : Opened → S.Opened
-opened_of (O.Refused r) = S.Opened.refuses (refusal_of r)
-opened_of (O.Routine z) = opens z.locations z.nodes
+-- the answer of opening, in 01's numbers: of what opens, by its bytes
+abbrev pub opened_of : Result (List ℕ) Refusal → S.Opened
+opened_of (Err r) = S.Opened.refuses (refusal_of r)
+opened_of (Ok b) = opens (locations b) (count b)

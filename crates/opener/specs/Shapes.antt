@@ -1,10 +1,8 @@
--- One node by its shape: whether its children stand where they must, and the word that tells of its subtree, from its children's.
-use Rattle.std.specs.Prelude.{ℕ, ◌+◌, ◌*◌, ◌/◌, ◌%◌, max, Bool, true, false, ◌&&◌, cond, List, eqb, leb}
-use Rattle.stored.specs.Layout.{kind, child1, child2, child3}
+-- One node by its form: whether its children stand where they must, and its places, from its children's.
+use Rattle.std.specs.Prelude.{ℕ, ◌+◌, ◌*◌, max, Bool, true, false, ◌&&◌, cond, eqb, leb}
 use Rattle.routine.specs.declared.Form.{Form}
 use Rattle.routine.specs.declared.Form.TheVariants.{Integer, Boolean, Plus, Geq, If, Assign, Deref, Skip, Seq, While, Unknown}
 use Rattle.routine.specs.declared.Node.{Node}
-use Rattle.routine.specs.Forms.{form_of, node_of}
 
 -- which of bytes 2-7 a form uses: none, a number, or one, two or three children
 pub data Shape : Type 0 where
@@ -76,16 +74,6 @@ stands_by has more c i low = eqb (c + has) (cond more low (has * i))
 abbrev pub keeps_node : Node → ℕ → ℕ → ℕ → Bool
 keeps_node d i q r = placed (shape_of d.form) i d.first d.second d.third q r && leb d.arg (arg_top d.form)
 
--- a word tells the lowest node of a subtree, and 65536 times one more than its places: that of a node i whose children's words are p, q and r
-abbrev pub word_by : Form → ℕ → ℕ → ℕ → ℕ → ℕ
-word_by f i p q r =
-    cond (leb 1 (children_of (shape_of f)))
-    (p % 65536 + 65536 * (max (cond (is_inside f) 65536 0 + q) (max (65536 + p) r) / 65536))
-    (65536 + i)
-
--- the word of node i, 0 where the node breaks the layout; s gives those of the nodes before it
-unfoldable pub word_at : List ℕ → ℕ → (ℕ → ℕ) → ℕ
-word_at b i s =
-    cond (keeps_node (node_of b i) i (s (child2 b i) % 65536) (s (child3 b i) % 65536))
-    (word_by (form_of (kind b i)) i (s (child1 b i)) (s (child2 b i)) (s (child3 b i)))
-    0
+-- the places of a form whose children have p, q and r: a part inside the form has one more
+abbrev pub places_by : Form → ℕ → ℕ → ℕ → ℕ
+places_by f p q r = cond (leb 1 (children_of (shape_of f))) (max (max (p + 1) r) (q + cond (is_inside f) 1 0)) 0

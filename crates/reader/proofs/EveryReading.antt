@@ -22,9 +22,11 @@ use Rattle.text_form.specs.Reading.{of_text, Taken, Reads, read_takes}
 use Rattle.text_form.proofs.Fitting.{Bytes, off, fine}
 use Rattle.text_form.proofs.OneTree.{agree}
 use Rattle.text_form.proofs.Parsing.{storable_of, unreadable}
+use Rattle.std.specs.Prelude.{Some, None}
 use Rattle.text_limits.specs.Limits.{Finds}
 use Rattle.text_limits.specs.Marks.{large}
-use Rattle.text_limits.specs.declared.Found.TheVariants.{At, Nowhere}
+use Rattle.text_limits.specs.declared.Numbers.{Numbers}
+use Rattle.text_limits.specs.declared.Numbers.TheVariants.{Locations, Integers}
 use Rattle.text_limits.proofs.Passing.{Passed, start, on, found, nowhere}
 use Rattle.reader.proofs.Judging as judge
 use Rattle.reader.proofs.Taking.{differ, same, refused_4, refused_text, refused_room}
@@ -50,10 +52,10 @@ verdict t b =
 
 -- ---- the first large number, or none
 
-abbrev Searched : List ℕ → Bool → Type 0
-Searched t l = ((i : ℕ) × Finds t l (At i)) ⊎ Finds t l Nowhere
+abbrev Searched : List ℕ → Numbers → Type 0
+Searched t l = ((i : ℕ) × Finds t l (Some i)) ⊎ Finds t l None
 
-search_on : (t : List ℕ) (l : Bool) (n i p : ℕ) → i + n ≡ length t → Passed t l i p → Searched t l
+search_on : (t : List ℕ) (l : Numbers) (n i p : ℕ) → i + n ≡ length t → Passed t l i p → Searched t l
 search_on t l zero i p e s = inr (nowhere t l i p s (omega arith))
 search_on t l (suc n) i p e s =
     by (large l p (get_or t i 0) (drop (i + 1) t)) refl (λ q. search_on t l n (i + 1) (get_or t i 0) (omega arith) (on t l i p s (omega arith) q refl))
@@ -63,7 +65,7 @@ search_on t l (suc n) i p e s =
     by true q k = inl (i, found t l i p s (omega arith) q refl)
     by false q k = k q
 
-searched : (t : List ℕ) (l : Bool) → Searched t l
+searched : (t : List ℕ) (l : Numbers) → Searched t l
 searched t l = search_on t l (length t) 0 32 (omega arith) (start t l)
 
 -- ---- all of it
@@ -72,18 +74,18 @@ judged : (t : List ℕ) → Bytes t → Unreadable t → (r : Refusal) × First 
 judged t b u = ⊎_elim of_form (λ (i, h). (_, judge.first_50 h)) (verdict t b)
   where
     of_form : OfForm t → (r : Refusal) × First (of_text t) r
-    of_form f = ⊎_elim (λ (i, h). (_, judge.first_51 f (judge.found h f.expr f.shown))) small_integers (searched t false)
+    of_form f = ⊎_elim (λ (i, h). (_, judge.first_51 f (judge.found h f.expr f.shown))) small_integers (searched t Integers)
       where
-        small_integers : Finds t false Nowhere → (r : Refusal) × First (of_text t) r
+        small_integers : Finds t Integers None → (r : Refusal) × First (of_text t) r
         small_integers h =
-            let none_51 : NoLargeInteger t = record { none_large = judge.none_found h } in
+            let none_51 : NoLargeInteger t = judge.no_large h in
             ⊎_elim (λ (i, k). (_, judge.first_52 f none_51 (judge.found k f.expr f.shown)))
             (λ k.
             elim (dec_lt 4096 (size f.expr)) [
               | yes l ↦ (_, judge.first_5 f none_51 (judge.none_found k) l)
               | no l ↦ (_, judge.first_9 f none_51 (judge.none_found k) u (λ e q. omega (arith, (agree (sym f.shown ∙ q)).same_size)))
             ])
-            (searched t true)
+            (searched t Locations)
 
 module _ (m : ℕ) (t room : List ℕ) where
   abbrev Answered : Type 0

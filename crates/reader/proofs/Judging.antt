@@ -3,7 +3,6 @@ use Prim.Native.Nat.{ℕ, ◌≤◌, ◌<◌}
 use native.Mathlib.Decide.{dec_lt}
 use native.Mathlib.Omega.{arith}
 use mathlib.Core.Path.{◌≡◌}
-use mathlib.Core.Bool.{Bool}
 use mathlib.Core.List.{List}
 use lib.ListN.{drop}
 use Rattle.l1.specs.Syntax.{Expr}
@@ -18,18 +17,23 @@ use Rattle.text_form.specs.Reading.{of_text}
 use Rattle.text_form.specs.Small.{Unreadable, NoLargeInteger}
 use Rattle.text_form.proofs.OnePlace.{not_form}
 use Rattle.text_form.proofs.SmallNumbers.{no_large_small}
+use Rattle.std.specs.Prelude.{Some, None}
 use Rattle.text_limits.specs.Limits.{Large, Finds, finds_first, finds_none}
-use Rattle.text_limits.specs.declared.Found.TheVariants.{At, Nowhere}
+use Rattle.text_limits.specs.declared.Numbers.{Numbers}
+use Rattle.text_limits.specs.declared.Numbers.TheVariants.{Integers}
 
 pub first_50 : {t : List ℕ} {i : ℕ} → Leaves t i → First (of_text t) (no_with 50 i)
 first_50 h = first_here (given_at h)
 
 -- what a pass has found of a text of the form
-pub found : {t : List ℕ} {l : Bool} {i : ℕ} → Finds t l (At i) → (e : Expr) → t ≡ text e → Foremost (Large l e) i
+pub found : {t : List ℕ} {l : Numbers} {i : ℕ} → Finds t l (Some i) → (e : Expr) → t ≡ text e → Foremost (Large l e) i
 found (finds_first h) = h
 
-pub none_found : {t : List ℕ} {l : Bool} → Finds t l Nowhere → (e : Expr) → t ≡ text e → (i : ℕ) → ¬ Large l e i
+pub none_found : {t : List ℕ} {l : Numbers} → Finds t l None → (e : Expr) → t ≡ text e → (i : ℕ) → ¬ Large l e i
 none_found (finds_none h) = h
+
+pub no_large : {t : List ℕ} → Finds t Integers None → NoLargeInteger t
+no_large h = record { none_large = none_found h }
 
 module _ {t : List ℕ} (f : OfForm t) where
   past_50 : Past (of_text t) (drop 1 (of_text t))

@@ -4,6 +4,7 @@ use mathlib.Core.Path.{◌≡◌, refl, sym, ◌∙◌, ap}
 use mathlib.Core.Bool.{cond}
 use mathlib.Core.List.{List}
 use lib.Dec.{eqb}
+use Rattle.std.specs.Prelude.{Result, Ok, Err}
 use Rattle.stored.specs.Stages as S
 use Rattle.stored.specs.Stages.{no, no_with}
 use Rattle.text_form.specs.Reading.{Reads}
@@ -11,8 +12,6 @@ use Rattle.text_form.proofs.OneReading.{reads_unique}
 use Rattle.reader.specs.Says.{unread_of, taken_of}
 use Rattle.reader.specs.declared.Unread.{Unread}
 use Rattle.reader.specs.declared.Unread.TheVariants.{Locations, NotOfForm, LargeInteger, LargeLocation, Nodes, Places, Room}
-use Rattle.reader.specs.declared.Taken.{Taken}
-use Rattle.reader.specs.declared.Taken.TheVariants.{Refused, Routine}
 
 -- the refusal of a number; of a number that none has, the last
 back : S.Refusal → Unread
@@ -32,12 +31,12 @@ back_again (Room n) = refl
 pub unread_unique : {r r' : Unread} → unread_of r ≡ unread_of r' → r ≡ r'
 unread_unique {r} {r'} e = sym (back_again r) ∙ ap back e ∙ back_again r'
 
-taken_unique : (r r' : Taken) → taken_of r ≡ taken_of r' → r ≡ r'
-taken_unique (Refused r) (Refused r') e = let q : unread_of r ≡ unread_of r' = cc in ap Refused (unread_unique q)
-taken_unique (Refused r) (Routine n) e = cc
-taken_unique (Routine n) (Refused r) e = cc
-taken_unique (Routine n) (Routine n') e = let q : n ≡ n' = cc in ap Routine q
+taken_unique : (r r' : Result ℕ Unread) → taken_of r ≡ taken_of r' → r ≡ r'
+taken_unique (Err r) (Err r') e = let q : unread_of r ≡ unread_of r' = cc in ap Err (unread_unique q)
+taken_unique (Err r) (Ok n) e = cc
+taken_unique (Ok n) (Err r) e = cc
+taken_unique (Ok n) (Ok n') e = let q : n ≡ n' = cc in ap Ok q
 
-pub one_reading : {m : ℕ} {t room room₁ room₂ : List ℕ} {r r' : Taken}
+pub one_reading : {m : ℕ} {t room room₁ room₂ : List ℕ} {r r' : Result ℕ Unread}
     → Reads m t room (taken_of r) room₁ → Reads m t room (taken_of r') room₂ → (r ≡ r') × (room₁ ≡ room₂)
 one_reading {r = r} {r' = r'} x x' = let (q, w) = reads_unique x x' in (taken_unique r r' q, w)

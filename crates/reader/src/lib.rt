@@ -6,27 +6,23 @@
 #![tactic(auto)]
 
 ghost use Rattle.std.specs.Prelude.{◌≡◌, ◌++◌, ◌∷◌, ◌+◌, ◌*◌, ◌/◌, ◌≤◌, ◌<◌, length};
-ghost use Rattle.node_text.specs.Put.{Put};
-ghost use Rattle.l1.specs.Text.{bytes};
 ghost use Rattle.stored.specs.Bytes.{two_bytes};
-ghost use Rattle.stored.specs.Stored.{node_bytes};
-ghost use Rattle.stored.specs.Stages.{number, First};
+ghost use Rattle.stored.specs.Stages.{First};
 ghost use Rattle.text_form.specs.Reading.{Reads, of_text};
-ghost use Rattle.text_form.specs.Form.{OfForm};
-ghost use Rattle.text_form.specs.Small.{Unreadable, NoLargeInteger};
-ghost use Rattle.routine.specs.Says.{returned};
+ghost use Rattle.text_form.specs.Small.{Unreadable};
 ghost use Rattle.reader.specs.Says.{unread_of, taken_of};
 ghost use Rattle.reader.specs.Enough.{Enough};
 
-use form::Verdict;
-use text_limits::Found;
+use descent::{Place, Room};
+use routine::Refuses;
+use text_limits::Numbers;
 
-// Refusal 9's limit.
-const PLACES: usize = 256;
-
-// How many brackets may stand inside one another. Twice the depth of a tree is at most its places and its nodes and 1 (`depth_by_places` in l1): one with
-// 256 places and 4,096 nodes is at most 2,176 deep, and its innermost expression has no bracket.
-const LEVELS: usize = 2175;
+// How much a text may hold: refusal 9's limit of places, and brackets inside one another. Twice the depth of a tree is at most its places and its nodes
+// and 1 (`depth_by_places` in l1): one with 256 places and 4,096 nodes is at most 2,176 deep, and its innermost expression has no bracket.
+const MOST: Room = Room {
+    levels: 2175,
+    places: 256,
+};
 
 // Why a text is not read: a case for each of request 1's numbers, with what the number also returns.
 #[derive(Clone, Copy)]
@@ -40,135 +36,104 @@ pub enum Unread {
     Room(u64),
 }
 
-// The length of the routine that was read, or why there is none.
-#[derive(Drop)]
-pub enum Taken {
-    Refused(Unread),
-    Routine(usize),
-}
+impl Refuses for Unread {
+    ghost refusal = { unread_of };
 
-// The number of a refusal.
-pub fn number_of(r: Unread) -> u64
-    ensures { result ≡ number (unread_of r) }
-{
-    match r {
-        Unread::Locations => 4,
-        Unread::NotOfForm(_) => 50,
-        Unread::LargeInteger(_) => 51,
-        Unread::LargeLocation(_) => 52,
-        Unread::Nodes => 5,
-        Unread::Places => 9,
-        Unread::Room(_) => 53,
+    fn number(self) -> u64 {
+        match self {
+            Unread::Locations => 4,
+            Unread::NotOfForm(_) => 50,
+            Unread::LargeInteger(_) => 51,
+            Unread::LargeLocation(_) => 52,
+            Unread::Nodes => 5,
+            Unread::Places => 9,
+            Unread::Room(_) => 53,
+        }
     }
-}
 
-// What a refusal also returns, 0 where it returns nothing.
-pub fn returned_by(r: Unread) -> u64
-    ensures { result ≡ returned (unread_of r) }
-{
-    match r {
-        Unread::Locations => 0,
-        Unread::NotOfForm(i) => i,
-        Unread::LargeInteger(i) => i,
-        Unread::LargeLocation(i) => i,
-        Unread::Nodes => 0,
-        Unread::Places => 0,
-        Unread::Room(n) => n,
-    }
-}
-
-// 52, 5 and 9. A text that was not read, and to which none of the others is given, has too many places.
-fn judge_locations(t: &[u8]) -> Unread
-    requires { Unreadable t.now × OfForm t.now × NoLargeInteger t.now }
-    ensures { First (of_text t.now) (unread_of result) }
-{
-    match text_limits::first_large(t, true) {
-        Found::At(i) => Unread::LargeLocation(i as u64),
-        Found::Nowhere => {
-            if 4096 < text_limits::nodes_of(t) {
-                Unread::Nodes
-            } else {
-                Unread::Places
-            }
+    fn also(self) -> Option<u64> {
+        match self {
+            Unread::NotOfForm(i)
+            | Unread::LargeInteger(i)
+            | Unread::LargeLocation(i)
+            | Unread::Room(i) => Some(i),
+            Unread::Locations | Unread::Nodes | Unread::Places => None,
         }
     }
 }
 
-// 51 and what comes after it.
-fn judge_integers(t: &[u8]) -> Unread
-    requires { Unreadable t.now × OfForm t.now }
-    ensures { First (of_text t.now) (unread_of result) }
-{
-    match text_limits::first_large(t, false) {
-        Found::At(i) => Unread::LargeInteger(i as u64),
-        Found::Nowhere => judge_locations(t),
-    }
-}
-
-// The refusal of a text that was not read: 50 to 52, 5 and 9, in that order.
+// The refusal of a text that was not read: 50 to 52, 5 and 9, in that order. A text to which none of the others is given has too many places.
 fn judge(t: &[u8]) -> Unread
     requires { Unreadable t.now }
     ensures { First (of_text t.now) (unread_of result) }
 {
-    match form::form(t) {
-        Verdict::Leaves(i) => Unread::NotOfForm(i as u64),
-        Verdict::OfForm => judge_integers(t),
+    if let Err(i) = form::form(t) {
+        return Unread::NotOfForm(i as u64);
     }
+    if let Some(i) = text_limits::first_large(t, Numbers::Integers) {
+        return Unread::LargeInteger(i as u64);
+    }
+    if let Some(i) = text_limits::first_large(t, Numbers::Locations) {
+        return Unread::LargeLocation(i as u64);
+    }
+    if 4096 < text_limits::nodes_of(t) {
+        return Unread::Nodes;
+    }
+    Unread::Places
 }
 
-// The first six bytes of a routine with m locations and n nodes, and the place behind them.
-fn put_head(room: &mut [u8], m: usize, n: usize) -> usize
-    requires { (6 ≤ length room.old) × (m ≤ 64) × (n ≤ 4096) }
-    ensures { Put room.old 0 (two_bytes (4 + 8 * n) ++ 1 ∷ m ∷ two_bytes n) room.new result }
+// The first six bytes of a routine with m locations and n nodes.
+fn head(m: usize, n: usize) -> [u8; 6]
+    requires { (m ≤ 64) × (n ≤ 4096) }
+    ensures { result ≡ two_bytes (4 + 8 * n) ++ 1 ∷ m ∷ two_bytes n }
 {
-    let l = 4 + 8 * n;
-    room[0] = (l / 256) as u8;
-    room[1] = (l % 256) as u8;
-    room[2] = 1;
-    room[3] = m as u8;
-    room[4] = (n / 256) as u8;
-    room[5] = (n % 256) as u8;
-    6
+    let [a, b] = ((4 + 8 * n) as u16).to_be_bytes();
+    let [c, d] = (n as u16).to_be_bytes();
+    [a, b, 1, m as u8, c, d]
 }
 
 // Reads with the lent slice for the nodes, which is enough for any text as long as t of a tree that a routine can hold.
-fn read_with(t: &[u8], m: usize, nodes: &mut [u8], room: &mut [u8]) -> Taken
+fn read_with(t: &[u8], m: usize, nodes: &mut [u8], room: &mut [u8]) -> Result<usize, Unread>
     requires { (m ≤ 64) × (length nodes.old ≤ 32768) × Enough t.now (length nodes.old / 8) }
     ensures { Reads m t.now room.old (taken_of result) room.new }
 {
-    let p = descent::expression(t, 0, LEVELS, PLACES, nodes, 0);
-    if p.at == 0 {
-        return Taken::Refused(judge(t));
+    let start = Place { at: 0, node: 0 };
+    let Some(end) = descent::expression(t, start, MOST, nodes) else {
+        return Err(judge(t));
+    };
+    if end.at != t.len() {
+        return Err(judge(t));
     }
-    if p.at != t.len() {
-        return Taken::Refused(judge(t));
-    }
-    let n = p.node;
+    let n = end.node;
     let needed = 6 + 8 * n;
     if room.len() < needed {
-        return Taken::Refused(Unread::Room(needed as u64));
+        return Err(Unread::Room(needed as u64));
     }
-    let behind = put_head(room, m, n);
-    let end = node_text::put_bytes(&nodes[..8 * n], room, behind);
-    Taken::Routine(end)
+    room[..6].copy_from_slice(&head(m, n));
+    room[6..needed].copy_from_slice(&nodes[..8 * n]);
+    Ok(needed)
+}
+
+// The same, with a slice of so many bytes.
+fn read_in<const N: usize>(t: &[u8], m: usize, room: &mut [u8]) -> Result<usize, Unread>
+    requires { (m ≤ 64) × (N ≤ 32768) × Enough t.now (N / 8) }
+    ensures { Reads m t.now room.old (taken_of result) room.new }
+{
+    let mut nodes = [0u8; N];
+    read_with(t, m, &mut nodes, room)
 }
 
 // Request 1: the routine of a text, with m given. A text has at least three bytes for each of its nodes but one: to clear a slice for 4,096 would cost a short one more
-// than its reading.
-pub fn read(t: &[u8], m: usize, room: &mut [u8]) -> Taken
+// than its reading. A const argument can't be computed, hence three calls.
+pub fn read(t: &[u8], m: usize, room: &mut [u8]) -> Result<usize, Unread>
     ensures { Reads m t.now room.old (taken_of result) room.new }
 {
     if 64 < m {
-        return Taken::Refused(Unread::Locations);
+        return Err(Unread::Locations);
     }
-    if t.len() <= 384 {
-        let mut nodes = [0u8; 1024];
-        return read_with(t, m, &mut nodes, room);
+    match t.len() {
+        0..=384 => read_in::<1024>(t, m, room),
+        385..=1536 => read_in::<4096>(t, m, room),
+        _ => read_in::<32768>(t, m, room),
     }
-    if t.len() <= 1536 {
-        let mut nodes = [0u8; 4096];
-        return read_with(t, m, &mut nodes, room);
-    }
-    let mut nodes = [0u8; 32768];
-    read_with(t, m, &mut nodes, room)
 }

@@ -4,61 +4,21 @@
 
 ghost use Rattle.std.specs.Prelude.{◌≡◌, ◌+◌, ◌≤◌, length};
 ghost use Rattle.stored.specs.Trace.{refused_line};
-ghost use Rattle.routine.specs.Says.{refusal_of};
-ghost use Rattle.node_text.specs.Put.{Put};
-ghost use Rattle.refused_line.specs.Refused.{has_more, refusal_by};
+ghost use Rattle.node_text.specs.Pages.{Puts};
 
-use routine::Refusal;
+use node_text::Page;
+use routine::Refuses;
 
-// The line of the refusal c, which also returns i if `more`.
-pub fn put_line(c: u64, more: bool, i: u64, buf: &mut [u8], at: usize) -> usize
-    requires { at + 64 ≤ length buf.old }
-    ensures { Put buf.old at (refused_line (refusal_by c more i)) buf.new result × (result ≤ at + 64) }
+// The number of the refusal, and what it also returns.
+pub fn put_refusal<R: Refuses>(r: R, page: &mut Page<'_>)
+    requires { page.old.at + 64 ≤ length page.old.room.now }
+    ensures { Puts page.old (refused_line (R.refusal r)) page.new × (page.new.at ≤ page.old.at + 64) }
 {
-    let p = node_text::put_bytes(b"refused ", buf, at);
-    let q = node_text::put_decimal(c, buf, p);
-    if more {
-        let u = node_text::put_bytes(b" at ", buf, q);
-        let v = node_text::put_decimal(i, buf, u);
-        return node_text::put_byte(10, buf, v);
+    page.text(b"refused ");
+    page.decimal(r.number());
+    if let Some(i) = r.also() {
+        page.text(b" at ");
+        page.decimal(i);
     }
-    node_text::put_byte(10, buf, q)
-}
-
-// Whether a refusal of a row also returns something.
-fn has_more(r: Refusal) -> bool
-    ensures { result ≡ has_more (refusal_of r) }
-{
-    match r {
-        Refusal::Short => false,
-        Refusal::Count => false,
-        Refusal::Version => false,
-        Refusal::Locations => false,
-        Refusal::Nodes => false,
-        Refusal::Length => false,
-        Refusal::Layout(_) => true,
-        Refusal::Forest => false,
-        Refusal::Places => false,
-        Refusal::Undeclared(_) => true,
-        Refusal::First(_) => true,
-        Refusal::Second(_) => true,
-        Refusal::Branches(_) => true,
-        Refusal::Store => false,
-        Refusal::Buffer(_) => true,
-        Refusal::Input => false,
-    }
-}
-
-// The line of a refusal of a row.
-pub fn put_refusal(r: Refusal, buf: &mut [u8], at: usize) -> usize
-    requires { at + 64 ≤ length buf.old }
-    ensures { Put buf.old at (refused_line (refusal_of r)) buf.new result × (result ≤ at + 64) }
-{
-    put_line(
-        routine::number_of(r),
-        has_more(r),
-        routine::returned_by(r),
-        buf,
-        at,
-    )
+    page.byte(b'\n');
 }

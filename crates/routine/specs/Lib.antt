@@ -2,5 +2,3 @@
 pub mod Forms  -- the forms by their kinds, and a node's parts
 pub mod Says  -- 01's number and values for each refusal
 pub mod Open  -- what is known of a routine that was opened
-pub mod Masks  -- tables that are read under a mask
-pub mod View  -- the view of a routine that was opened

@@ -1,7 +1,8 @@
 -- What is known of the bytes of a routine that was opened.
-use Rattle.std.specs.Prelude.{ℕ, ◌-◌, ◌≡◌, List}
+use Rattle.std.specs.Prelude.{ℕ, ◌-◌, ◌≡◌, ◌<◌, List}
 use Rattle.l1.specs.Syntax.{Expr, Ty}
 use Rattle.l1.specs.Typing.{◌⊢◌∶◌}
+use Rattle.stored.specs.Bytes.{byte}
 use Rattle.stored.specs.Reader.{tree_at}
 use Rattle.stored.specs.Refusals.{locations, count, env, Holds}
 use Rattle.stored.specs.Answers.{Opens}
@@ -19,6 +20,19 @@ pub record IsOpen (b : List ℕ) (z : Sizes) : Type 0 where
   pub sizes : SizesOf b z
   pub opens : Opens b
   pub holds : Holds b (root_of b)
+
+-- the same of what the program holds, where each number is a byte
+pub record Held (b : List ℕ) (z : Sizes) : Type 0 where
+  pub is_open : IsOpen b z
+  pub small : (k : ℕ) → byte b k < 256
+
+-- n and m of opened bytes
+abbrev pub sizes_of : List ℕ → Sizes
+sizes_of b = record { nodes = count b; locations = locations b }
+
+-- the bytes were opened
+abbrev pub Opened : List ℕ → Type 0
+Opened b = IsOpen b (sizes_of b)
 
 -- a routine that may be run: it was opened, and it has a type
 pub record Runnable (b : List ℕ) : Type 0 where

@@ -1,5 +1,5 @@
 -- 01's number, and what it also returns, for each case of a refusal.
-use Rattle.std.specs.Prelude.{ℕ}
+use Rattle.std.specs.Prelude.{ℕ, Option, None, Some}
 use Rattle.stored.specs.Stages as S
 use Rattle.stored.specs.Stages.{no, no_with}
 use Rattle.routine.specs.declared.Refusal.{Refusal}
@@ -28,3 +28,8 @@ refusal_of Input = no 40
 abbrev pub returned : S.Refusal → ℕ
 returned (no c) = 0
 returned (no_with c i) = i
+
+-- what a refusal also returns
+abbrev pub also_of : S.Refusal → Option ℕ
+also_of (no c) = None
+also_of (no_with c i) = Some i

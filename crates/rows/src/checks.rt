@@ -1,30 +1,33 @@
 // The line of a check: the type, W and the two sets, or the refusal.
 use crate::line;
-use checker::{Checked, Told, Ty};
+use checker::{Told, Ty};
+use std::io;
+use std::io::Write;
 
-fn print_type(t: Ty) -> bool {
+fn name_of(t: Ty) -> &'static str {
     match t {
-        Ty::Int => line::print(b"int"),
-        Ty::Bool => line::print(b"bool"),
-        Ty::Unit => line::print(b"unit"),
+        Ty::Int => "int",
+        Ty::Bool => "bool",
+        Ty::Unit => "unit",
     }
 }
 
-fn print_told(t: Told) -> bool {
-    let ty = t.ty;
-    print_type(ty)
-        && line::print_number(t.working as u64)
-        && line::print_number(t.reads)
-        && line::print_number(t.writes)
+fn print_told<W: Write>(out: &mut W, told: Told) -> io::Result<()> {
+    let Told {
+        ty,
+        working,
+        reads,
+        writes,
+    } = told;
+    writeln!(out, "{} {working} {reads} {writes}", name_of(ty))
 }
 
-fn print_checked(c: Checked) -> bool {
-    match c {
-        Checked::Refused(r) => line::print_refusal(r),
-        Checked::Accepted(t) => print_told(t),
+pub fn answer<W: Write>(out: &mut W, row: &[u8]) -> io::Result<()> {
+    match checker::check(row) {
+        Ok(told) => print_told(out, told),
+        Err(refusal) => {
+            line::print_refused(out, refusal)?;
+            writeln!(out)
+        }
     }
-}
-
-pub fn answer(row: &[u8]) -> bool {
-    print_checked(checker::check(row)) && line::print(b"\n")
 }

@@ -6,8 +6,9 @@
 
 ghost use Rattle.std.specs.Prelude.{◌≤◌, length};
 
-use record::Head;
-use std::io::Read;
+use record::{Head, Stop};
+use std::io;
+use std::io::{Read, Write};
 
 mod checks;
 mod lent;
@@ -20,65 +21,78 @@ mod texts;
 mod writes;
 
 // Answers a record's question. The input is what `trace` would read: the row, the fuel and the values.
-fn answer(h: Head, input: &[u8], store: &mut [i32], buf: &mut [u8]) -> bool
-    requires { (h.bytes ≤ length input.now) × (h.bytes ≤ 65535) × (65536 ≤ length buf.old) }
+fn answer<W: Write>(
+    out: &mut W,
+    head: &Head,
+    input: &[u8],
+    store: &mut [i32],
+    buf: &mut [u8],
+) -> io::Result<()>
+    requires { (head.now.bytes ≤ length input.now) × (65536 ≤ length buf.old) }
 {
-    let row = &input[..h.bytes];
-    let fuel = h.fuel;
-    let question = h.question;
-    let lent = record::lent(fuel);
-    match question {
-        b'c' => checks::answer(row),
-        b'r' => runs::answer(row, store, fuel),
-        b'x' => texts::answer(row, store, fuel, buf),
-        b't' => trace_output::print(input, buf),
-        b's' => stores::answer(row, h.entries, &mut buf[..lent]),
-        b'n' => nests::answer(row, fuel as u64, h.entries, buf),
-        b'w' => writes::answer(row, &mut buf[..lent]),
-        _ => line::print_fault(b"unknown question", question as u64),
+    let row = &input[..usize::from(head.bytes)];
+    let m = usize::from(head.entries);
+    // the letters of docs/ROWS.md are met here alone
+    match head.question {
+        b'c' => checks::answer(out, row),
+        b'r' => runs::answer(out, row, store, head.fuel),
+        b'x' => texts::answer(out, row, store, head.fuel, buf),
+        b't' => trace_output::print(out, input, buf),
+        b's' => stores::answer(out, row, m, &mut buf[..head.lent()]),
+        b'n' => nests::answer(out, row, head.fuel, m, buf),
+        b'w' => writes::answer(out, row, &mut buf[..head.lent()]),
+        letter => writeln!(out, "unknown question {letter}"),
     }
 }
 
-// Reads one record and answers it; false where the program ends.
-fn one_record<R: Read>(from: &mut R, room: &mut [u8], store: &mut [i32], buf: &mut [u8]) -> bool
-    requires { (70000 ≤ length room.old) × (1000 ≤ length store.old) × (65536 ≤ length buf.old) }
-{
-    let mut head = [0u8; 9];
-    if !record::take_head(from, &mut head) {
-        return false;
-    }
-    let h = record::head_of(&head);
-    let bytes = h.bytes;
-    let entries = h.entries;
-    if record::MOST_ENTRIES < entries {
-        return record::pass_over(from, room, 4 * entries + bytes)
-            && line::print_fault(b"too many entries", entries as u64);
+// Reads one record into the room and answers it.
+fn one_record<R: Read, W: Write>(
+    from: &mut R,
+    out: &mut W,
+    room: &mut [u8; 70000],
+    store: &mut [i32; 1000],
+    buf: &mut [u8; 65536],
+) -> Result<(), Stop> {
+    let head = record::take_head(from)?;
+    let bytes = usize::from(head.bytes);
+    let entries = usize::from(head.entries);
+    if record::MOST_ENTRIES < head.entries {
+        record::pass_over(from, (4 * entries + bytes) as u64)?;
+        writeln!(out, "too many entries {entries}")?;
+        return Ok(());
     }
     let values = bytes + 4;
     let end = values + 4 * entries;
-    record::put_fuel(&head, room, bytes);
-    if !record::take(from, &mut room[values..end]) {
-        return false;
+    let input = &mut room[..end];
+    input[bytes..values].copy_from_slice(&head.fuel.to_be_bytes());
+    record::take(from, &mut input[values..])?;
+    record::take(from, &mut input[..bytes])?;
+    let store = &mut store[..entries];
+    routine::values_at(input, values, store);
+    answer(out, &head, input, store, buf)?;
+    Ok(())
+}
+
+fn all_records<R: Read, W: Write>(from: &mut R, out: &mut W) -> Result<(), Stop> {
+    let mut room = [0u8; 70000];
+    let mut store = [0i32; 1000];
+    let mut buf = [0u8; 65536];
+    // no input has as many records as this
+    for _ in 0..u64::MAX {
+        one_record(from, out, &mut room, &mut store, &mut buf)?;
     }
-    if !record::take(from, &mut room[..bytes]) {
-        return false;
+    Ok(())
+}
+
+fn rows(rt: HostRuntime) -> io::Result<()> {
+    match all_records(&mut rt.stdin(), &mut rt.stdout()) {
+        Err(Stop::Cut) => println!(rt; "cut record"),
+        Err(Stop::Unreadable) => eprintln!(rt; "rows: the input could not be read"),
+        _ => Ok(()),
     }
-    let s = &mut store[..entries];
-    routine::values_at(room, values, s);
-    answer(h, &room[..end], s, buf)
 }
 
 fn main(rt: HostRuntime) {
-    let mut room = [0u8; 70000];
-    let mut store = [0i32; 1000];
-    let mut buf = io::large_buffer();
-    let mut from = rt.stdin();
-    // no input has as many records as this
-    let mut left: u64 = 18446744073709551615;
-    while 0 < left {
-        if !one_record(&mut from, &mut room, &mut store, &mut buf) {
-            return;
-        }
-        left -= 1;
-    }
+    // a write that fails ends the program, and there is nobody left to tell
+    let _ = rows(rt);
 }

@@ -1,54 +1,38 @@
 // The line of a text that is stored as a row: the row's length and its bytes in hexadecimal, or the refusal.
-ghost use Rattle.std.specs.Prelude.{◌≤◌, ◌<◌, length};
+ghost use Rattle.std.specs.Prelude.{◌≤◌, length};
 
-use crate::line::STDOUT_FILENO;
 use crate::{lent, line};
-use reader::Taken;
+use std::io;
+use std::io::Write;
 
-// A number below 16 as a digit, with small letters.
-fn digit(n: u8) -> u8
-    requires { n < 16 }
+// At most 256 bytes, two digits each, with small letters.
+fn print_piece<W: Write>(out: &mut W, piece: &[u8]) -> io::Result<()>
+    requires { length piece.now ≤ 256 }
 {
-    if n < 10 { 48 + n } else { 87 + n }
+    let mut room = [0u8; 512];
+    let digits = &mut room[..2 * piece.len()];
+    hex::encode_to_slice(piece, digits).unwrap();
+    out.write_all(digits)
 }
 
-// At most 256 bytes, two digits each.
-fn print_piece(bytes: &[u8]) -> bool
-    requires { length bytes.now ≤ 256 }
-{
-    let mut digits = [0u8; 512];
-    let mut i = 0;
-    while i < bytes.len() {
-        let b = bytes[i];
-        digits[2 * i] = digit(b / 16);
-        digits[2 * i + 1] = digit(b % 16);
-        i += 1;
+fn print_bytes<W: Write>(out: &mut W, bytes: &[u8]) -> io::Result<()> {
+    for piece in bytes.chunks(256) {
+        print_piece(out, piece)?;
     }
-    line::print(&digits[..2 * i])
+    Ok(())
 }
 
-fn print_bytes(bytes: &[u8]) -> bool {
-    let mut at = 0;
-    while 256 < bytes.len() - at {
-        if !print_piece(&bytes[at..at + 256]) {
-            return false;
-        }
-        at += 256;
-    }
-    print_piece(&bytes[at..])
-}
-
-fn print_row(row: &[u8]) -> bool {
-    io::print_decimal(STDOUT_FILENO, row.len() as u64) && line::print(b" ") && print_bytes(row)
-}
-
-pub fn answer(text: &[u8], m: usize, room: &mut [u8]) -> bool {
+pub fn answer<W: Write>(out: &mut W, text: &[u8], m: usize, room: &mut [u8]) -> io::Result<()> {
     lent::blank(room);
     match reader::read(text, m, room) {
-        Taken::Refused(r) => {
-            line::print_refused(reader::number_of(r), reader::returned_by(r))
-                && lent::print_rest(room, 0)
+        Ok(n) => {
+            write!(out, "{n} ")?;
+            print_bytes(out, &room[..n])?;
+            lent::print_end(out, &room[n..])
         }
-        Taken::Routine(n) => print_row(&room[..n]) && lent::print_rest(room, n),
+        Err(refusal) => {
+            line::print_refused(out, refusal)?;
+            lent::print_end(out, room)
+        }
     }
 }

@@ -2,15 +2,14 @@
 
 #![tactic(auto)]
 
-ghost use Rattle.std.specs.Prelude.{◌≤◌, length};
+ghost use Rattle.std.specs.Prelude.{◌≤◌, length, Ok};
 ghost use Rattle.stored.specs.Refusals.{locations};
 ghost use Rattle.stored.specs.Answers.{Runs};
-ghost use Rattle.routine.specs.Open.{SizesOf, Runnable};
 ghost use Rattle.runner.specs.Says.{ran_of};
 
-use checker::admission::{Admission, Lent};
-use machine::Ending;
-use routine::{Refusal, Sizes};
+use checker::admission::{self, Lent};
+use machine::{Ending, Pending};
+use routine::{Program, Refusal};
 
 // How a run ended, with T and K.
 #[derive(Drop)]
@@ -20,39 +19,25 @@ pub struct End {
     pub loops: u64,
 }
 
-#[derive(Drop)]
-pub enum Ran {
-    Refused(Refusal),
-    Ended(End),
-}
-
 // The run of a routine that has a type, on a store that has its locations.
-fn run_typed(b: &[u8], z: Sizes, s: &mut [i32], fuel: u32) -> Ran
-    requires { Runnable b.now × SizesOf b.now z × (locations b.now ≤ length s.old) }
-    ensures { Runs b.now s.old fuel (ran_of result) s.new }
+fn run_typed(program: &Program<'_>, s: &mut [i32], fuel: u32) -> End
+    requires { locations program.now ≤ length s.old }
+    ensures { Runs program.now s.old fuel (ran_of (Ok result)) s.new }
 {
-    let root = (z.nodes - 1) as u32;
-    let first = machine::start(b, z, root);
-    let places = machine::no_places();
-    let end = machine::go_on(b, z, places, first, s, fuel as u64);
-    let ending = end.ending;
-    let m = end.machine;
-    Ran::Ended(End {
-        ending: ending,
-        steps: m.steps,
-        loops: m.loops,
-    })
+    let row = program.row();
+    let mut pending = Pending::new();
+    let stand = machine::go_on(row, &mut pending, machine::start(row), s, u64::from(fuel));
+    End {
+        ending: stand.ending,
+        steps: stand.machine.steps,
+        loops: stand.machine.loops,
+    }
 }
 
 // The run. A refusal changes no entry of the store.
-pub fn run(b: &[u8], s: &mut [i32], fuel: u32) -> Ran
+pub fn run(b: &[u8], s: &mut [i32], fuel: u32) -> Result<End, Refusal>
     ensures { Runs b.now s.old fuel (ran_of result) s.new }
 {
-    match checker::admission::admit(b, Lent::Store(s.len())) {
-        Admission::Refused(r) => Ran::Refused(r),
-        Admission::Admitted(row) => {
-            let z = row.sizes;
-            run_typed(b, z, s, fuel)
-        }
-    }
+    let row = admission::admit(b, Lent::Store(s.len()))?;
+    Ok(run_typed(&row.program, s, fuel))
 }

@@ -5,43 +5,47 @@
 
 #![tactic(auto)]
 
-use writer::Written;
-
-// The descriptor of standard output.
-const STDOUT_FILENO: i32 = 1;
-
-// The descriptor of standard error.
-const STDERR_FILENO: i32 = 2;
+use node_text::Page;
+use std::io;
+use std::io::Write;
 
 // The text and a line end, or the line of a refusal.
-fn print(b: &[u8], buf: &mut [u8]) {
-    match writer::write(b, buf) {
-        Written::Refused(r) => {
-            let mut line = [0u8; 64];
-            let end = refused_line::put_refusal(r, &mut line, 0);
-            io::write_all(STDERR_FILENO, &line[..end]);
+fn print<O: Write, E: Write>(
+    out: &mut O,
+    err: &mut E,
+    row: &[u8],
+    buf: &mut [u8],
+) -> io::Result<()> {
+    match writer::write(row, buf) {
+        Ok(n) => {
+            out.write_all(&buf[..n])?;
+            out.write_all(b"\n")
         }
-        Written::Text(n) => {
-            if io::write_all(STDOUT_FILENO, &buf[..n]) {
-                io::write_all(STDOUT_FILENO, b"\n");
-            }
+        Err(refusal) => {
+            let mut page = Page {
+                room: &mut [0; 64],
+                at: 0,
+            };
+            refused_line::put_refusal(refusal, &mut page);
+            let end = page.at;
+            err.write_all(&page.room[..end])
         }
     }
 }
 
-fn main(rt: HostRuntime) {
+fn show(rt: HostRuntime) -> io::Result<()> {
     if 1 < words::count(&rt) {
-        io::write_all(STDERR_FILENO, b"usage: show < row\n");
-        return;
+        return eprintln!(rt; "usage: show < row");
     }
     let mut room = [0u8; 65538];
-    let mut from = rt.stdin();
-    let got = input::fill(&mut from, &mut room);
-    if got.failed {
-        io::write_all(STDERR_FILENO, b"show: the input could not be read\n");
-        return;
-    }
-    let n = got.count;
+    let Ok(n) = input::fill(&mut rt.stdin(), &mut room) else {
+        return eprintln!(rt; "show: the input could not be read");
+    };
     let mut buf = [0u8; 57344];
-    print(&room[..n], &mut buf);
+    print(&mut rt.stdout(), &mut rt.stderr(), &room[..n], &mut buf)
+}
+
+fn main(rt: HostRuntime) {
+    // a write that fails ends the program, and there is nobody left to tell
+    let _ = show(rt);
 }

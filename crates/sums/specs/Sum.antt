@@ -1,12 +1,6 @@
--- What the sum of two integers is: the number where it is in range, and otherwise out.
-use Rattle.std.specs.Prelude.{Bool, true, false, ℤ, ◌+ℤ◌}
+-- What the sum of two integers is: the number where it is in range, and otherwise none.
+use Rattle.std.specs.Prelude.{cond, Option, Some, None, ℤ, ◌+ℤ◌}
 use Rattle.l1.specs.Next.{in_range}
-use Rattle.sums.specs.declared.Sum.{Sum}
-use Rattle.sums.specs.declared.Sum.TheVariants.{In, Out}
 
-abbrev pub pick : Bool → Sum → Sum → Sum
-pick true a b = a
-pick false a b = b
-
-abbrev pub sum_of : ℤ → ℤ → Sum
-sum_of a b = pick (in_range (a +ℤ b)) (In (a +ℤ b)) Out
+abbrev pub sum_of : ℤ → ℤ → Option ℤ
+sum_of a b = cond (in_range (a +ℤ b)) (Some (a +ℤ b)) None

@@ -6,24 +6,11 @@ ghost use Rattle.std.specs.Prelude.{◌≡◌, nat_abs};
 ghost use Rattle.std.specs.Int.Signed.{le_z};
 ghost use Rattle.sums.specs.Sum.{sum_of};
 
-#[derive(Drop)]
-pub enum Sum {
-    In(i32),
-    Out,
-}
-
-// The sum in 64 bits, tested against both ends of the range.
-pub fn add(a: i32, b: i32) -> Sum
+// None: the sum is out of range.
+pub fn add(a: i32, b: i32) -> Option<i32>
     ensures { result ≡ sum_of a b }
 {
-    let x = (a as i64) + (b as i64);
-    if x < -2147483648 {
-        return Sum::Out;
-    }
-    if 2147483647 < x {
-        return Sum::Out;
-    }
-    Sum::In(x as i32)
+    a.checked_add(b)
 }
 
 pub fn geq(a: i32, b: i32) -> bool
@@ -36,9 +23,5 @@ pub fn geq(a: i32, b: i32) -> bool
 pub fn magnitude(n: i32) -> u64
     ensures { result ≡ nat_abs n }
 {
-    if n < 0 {
-        (0 - (n as i64)) as u64
-    } else {
-        n as u64
-    }
+    u64::from(n.unsigned_abs())
 }

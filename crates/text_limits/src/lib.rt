@@ -3,93 +3,91 @@
 
 #![tactic(auto)]
 
-ghost use Rattle.std.specs.Prelude.{◌≡◌, ◌&&◌, ◌+◌, ◌≤◌, ◌<◌, ltb, length, get_or, drop};
+ghost use Rattle.std.specs.Prelude.{◌≡◌, ◌&&◌, ◌+◌, ◌<◌, ltb, length, get_or, drop};
 ghost use Rattle.text_form.specs.Digits.{digit};
 ghost use Rattle.text_limits.specs.Limits.{Finds, Counts};
-ghost use Rattle.text_limits.specs.Marks.{value, behind, bound, large, unit_of};
+ghost use Rattle.text_limits.specs.Marks.{value, behind, signed, bound, large};
 
-#[derive(Drop)]
-pub enum Found {
-    At(usize),
-    Nowhere,
+// Which numbers of a text are asked for.
+#[derive(Clone, Copy)]
+pub enum Numbers {
+    Locations,
+    Integers,
 }
 
-// Whether the digits from i on note more than the bound. The value is held up to the bound alone.
-fn over(t: &[u8], i: usize, bound: u64) -> bool
-    requires { (i ≤ length t.now) × (bound < 4294967296) }
-    ensures { result ≡ ltb bound (value (drop i t.now)) }
+impl Numbers {
+    // Whether b is the first digit of such a number, behind the byte p: in a text of the form an l is before a location's number, and a space or a
+    // bracket before an integer with no minus.
+    fn begin_with(self, b: u8, p: u8) -> bool
+        ensures { result ≡ digit b && behind self p }
+    {
+        b.is_ascii_digit()
+            && match self {
+                Numbers::Locations => p == b'l',
+                Numbers::Integers => p == b' ' || p == b'(',
+            }
+    }
+
+    // Whether such a number may begin with a minus.
+    fn signed(self) -> bool
+        ensures { result ≡ signed self }
+    {
+        matches!(self, Numbers::Integers)
+    }
+
+    // The largest that a routine can hold.
+    fn bound(self) -> u32
+        ensures { result ≡ bound self }
+    {
+        match self {
+            Numbers::Locations => 255,
+            Numbers::Integers => 2147483647,
+        }
+    }
+}
+
+// Whether the digits in front note more than the bound. The value is held up to the bound alone.
+fn over(t: &[u8], bound: u32) -> bool
+    ensures { result ≡ ltb bound (value t.now) }
 {
-    let mut k = i;
-    let mut v = 0;
-    while k < t.len() {
-        let b = t[k];
-        if b < 48 {
+    let mut v: u64 = 0;
+    for b in t {
+        if !b.is_ascii_digit() {
             return false;
         }
-        if 57 < b {
-            return false;
-        }
-        v = 10 * v + (b - 48) as u64;
-        if bound < v {
+        v = 10 * v + u64::from(*b - b'0');
+        if u64::from(bound) < v {
             return true;
         }
-        k += 1;
     }
     false
-}
-
-// Whether b, behind the byte p, is the first digit of a location's number, or of an integer with no minus: in a text of the form an l is before the
-// one, and a space or a bracket before the other.
-fn begins(p: u8, b: u8, locations: bool) -> bool
-    ensures { result ≡ digit b && behind locations p }
-{
-    ((47 < b) & (b < 58)) & ((locations & (p == 108)) | (!locations & ((p == 32) | (p == 40))))
-}
-
-fn bound_of(locations: bool) -> u64
-    ensures { (result ≡ bound locations) × (result < 4294967296) }
-{
-    if locations { 255 } else { 2147483647 }
 }
 
 // Whether a number that is too large begins at i, behind the byte p. It is read at its first byte alone.
-fn large_at(t: &[u8], i: usize, p: u8, locations: bool) -> bool
+fn large_at(t: &[u8], i: usize, p: u8, numbers: Numbers) -> bool
     requires { i < length t.now }
-    ensures { result ≡ large locations p (get_or t.now i 0) (drop (i + 1) t.now) }
+    ensures { result ≡ large numbers p (get_or t.now i 0) (drop (i + 1) t.now) }
 {
     let b = t[i];
-    if b == 45 {
-        if locations {
-            return false;
-        }
-        return over(t, i + 1, 2147483648);
+    if b == b'-' {
+        numbers.signed() && over(&t[i + 1..], 2147483648)
+    } else {
+        numbers.begin_with(b, p) && over(&t[i..], numbers.bound())
     }
-    if begins(p, b, locations) {
-        return over(t, i, bound_of(locations));
-    }
-    false
 }
 
 // The first location over 255 of a text of the form, or the first integer that is out of range. The text begins as if behind a space.
-pub fn first_large(t: &[u8], locations: bool) -> Found
-    ensures { Finds t.now locations result }
+pub fn first_large(t: &[u8], numbers: Numbers) -> Option<usize>
+    ensures { Finds t.now numbers result }
 {
-    let mut i = 0;
-    let mut p = 32;
-    while i < t.len() {
-        if large_at(t, i, p, locations) {
-            return Found::At(i);
+    let mut p = b' ';
+    for (i, b) in t.iter().enumerate() {
+        if large_at(t, i, p, numbers) {
+            return Some(i);
         }
-        p = t[i];
-        i += 1;
+        p = *b;
     }
-    Found::Nowhere
-}
-
-fn unit(t: bool) -> usize
-    ensures { (result ≡ unit_of t) × (result ≤ 1) }
-{
-    if t { 1 } else { 0 }
+    None
 }
 
 // The nodes of a text of the form: one more than there are children. The bracket of a form counts a child, and so does the sign of a sum, a
@@ -98,14 +96,11 @@ fn unit(t: bool) -> usize
 pub fn nodes_of(t: &[u8]) -> usize
     ensures { Counts t.now result }
 {
-    let mut i = 0;
-    let mut n = 0;
-    let mut w = 0;
-    while i < t.len() {
-        let b = t[i];
-        n += unit((b == 40) | ((b == 43) | ((b == 62) | ((b == 59) | ((b == 104) | (b == 110))))));
-        w += unit(b == 119);
-        i += 1;
+    let mut children = 0;
+    let mut loops = 0;
+    for b in t {
+        children += usize::from(matches!(*b, b'(' | b'+' | b'>' | b';' | b'h' | b'n'));
+        loops += usize::from(*b == b'w');
     }
-    if n < w { 0 } else { 1 + (n - w) }
+    (1 + children).saturating_sub(loops)
 }

@@ -4,18 +4,18 @@
 
 #![tactic(auto)]
 
-// The descriptor of standard error.
-const STDERR_FILENO: i32 = 2;
+use std::io;
+
+fn trace(rt: HostRuntime) -> io::Result<()> {
+    let mut room = [0u8; 33035];
+    let Ok(n) = input::fill(&mut rt.stdin(), &mut room) else {
+        return eprintln!(rt; "trace: the input could not be read");
+    };
+    let mut buf = [0u8; 65536];
+    trace_output::print(&mut rt.stdout(), &room[..n], &mut buf)
+}
 
 fn main(rt: HostRuntime) {
-    let mut room = [0u8; 33035];
-    let mut from = rt.stdin();
-    let got = input::fill(&mut from, &mut room);
-    if got.failed {
-        io::write_all(STDERR_FILENO, b"trace: the input could not be read\n");
-        return;
-    }
-    let n = got.count;
-    let mut buf = io::large_buffer();
-    trace_output::print(&room[..n], &mut buf);
+    // a write that fails ends the program, and there is nobody left to tell
+    let _ = trace(rt);
 }

@@ -1,7 +1,8 @@
 -- The first line, and the whole of them: what is told when all is told is what `trace` prints.
-use Prim.Native.Nat.{ℕ, ◌+◌}
+use Prim.Native.Nat.{ℕ, ◌-◌}
 use mathlib.Core.Path.{◌≡◌, refl, subst}
 use mathlib.Core.List.{List, [], ◌∷◌, ◌++◌}
+use Rattle.std.specs.Prelude.{None}
 use Rattle.l1.specs.Store.{Store}
 use Rattle.l1.specs.Run.{stay, answer, Yields}
 use Rattle.l1.specs.Text.{bytes}
@@ -18,10 +19,10 @@ use Rattle.machine.proofs.FirstMoment.{first_meaning}
 use Rattle.trace_lines.specs.Lines.{lines_to, AllLines, all_lines, LinesAt, name_of}
 use Rattle.trace_lines.proofs.NextLine.{same_end}
 
-pub first_line : {b : List ℕ} {s : Store} {p : Pending} {m : Machine} {root : ℕ} → Moment b s s p m → root + 1 ≡ count b → p.height ≡ 0
-    → Loaded b root m.work × (m.steps ≡ 0) × (m.loops ≡ 0) × (m.rule ≡ 0)
+pub first_line : {b : List ℕ} {s : Store} {p : Pending} {m : Machine} → Moment b s s p m → p.height ≡ 0
+    → Loaded b (count b - 1) m.work × (m.steps ≡ 0) × (m.loops ≡ 0) × (m.rule ≡ None)
     → LinesAt b s (moment_line m.steps (name_of m.rule) (meaning b p m) s ∷ []) p m s
-first_line {b} {s} {p} {m} i r h (l, t, k, q) = record { moment = i; lines = rw (first_meaning b p m r h l, t, q) (lines_to stay) }
+first_line {b} {s} {p} {m} i h (l, t, k, q) = record { moment = i; lines = rw (first_meaning b p m h l, t, q) (lines_to stay) }
 
 pub all_prints : {input : List ℕ} {ls : List (List ℕ)} → Passes (tracing input) → Holds (routine input) (root_of (routine input))
     → AllLines (routine input) (store_in input) (fuel_in input) ls → Prints input ls

@@ -2,12 +2,13 @@
 use Prim.Native.Nat.{ℕ, zero, suc, ◌+◌, ◌≤◌, ◌<◌}
 use native.Mathlib.Nat.{add-zero}
 use native.Mathlib.Omega.{arith}
-use mathlib.Core.Path.{◌≡◌, refl, sym, ap, ap₂, ◌∙◌, subst}
+use mathlib.Core.Path.{◌≡◌, refl, ap, ap₂, ◌∙◌, subst}
 use mathlib.Core.Logic.{◌⊎◌, inl, inr}
 use mathlib.Core.List.{List, [], ◌∷◌, ◌++◌}
+use Rattle.std.specs.Prelude.{Option}
 use Rattle.l1.specs.Syntax.{Expr}
 use Rattle.l1.specs.Store.{Store}
-use Rattle.l1.specs.Steps.{Rule, by_plus, by_geq, by_deref, by_assign, by_seq, by_if_true, by_if_false, by_while, ⟨◌∣◌⟩⟶⟨◌∣◌⟩◌}
+use Rattle.l1.specs.Steps.{Rule, ⟨◌∣◌⟩⟶⟨◌∣◌⟩◌}
 use Rattle.l1.specs.Run.{whiles, Run, stay, more, Outcome, answer, Yields, ends_value, ends_overflow, ends_fuel, goes_on}
 use Rattle.l1.specs.Text.{bytes, rule_name}
 use Rattle.l1.proofs.Determinism.{determinism}
@@ -16,10 +17,11 @@ use Rattle.l1.proofs.OneAct.{overflow_makes_no_step}
 use Rattle.l1.proofs.Outcomes.{answer_counts_steps}
 use Rattle.stored.specs.Trace.{moment_line, moment_lines, last_line}
 use Rattle.routine.specs.Open.{root_of}
-use Rattle.machine.specs.Acts.{rule_no}
+use Rattle.machine.specs.Acts.{rule_of}
 use Rattle.machine.specs.Moment.{meaning, LastStep, no_step, last_step, Moment}
 use Rattle.machine.specs.declared.state.Pending.{Pending}
 use Rattle.machine.specs.declared.state.Machine.{Machine}
+use Rattle.machine.specs.declared.state.Rule.{Rule as Named}
 use Rattle.trace_lines.specs.Lines.{LinesTo, lines_to, AllLines, all_lines, LinesAt, name_of}
 
 -- two runs of as many steps from one place come to one place, by as many turns of loops
@@ -48,26 +50,16 @@ moments_more k {r = r} {a₁ = a₁} {z₁ = z₁} (more {T = T} d ds) d₁ (mor
     ap₂ ◌∷◌ (rw (r', q', p') refl)
     (moments_more (suc k) ds d₁ ds' (omega arith) q' p' ∙ ap (λ (i : ℕ). moment_lines (suc k) ds ++ moment_line i (rule_name r) a₁ z₁ ∷ []) n)
 
-name_is : (r : Rule) → name_of (rule_no r) ≡ rule_name r
-name_is by_plus = refl
-name_is by_geq = refl
-name_is by_deref = refl
-name_is by_assign = refl
-name_is by_seq = refl
-name_is by_if_true = refl
-name_is by_if_false = refl
-name_is by_while = refl
-
 module _ {b : List ℕ} {s₀ : Store} where
-  told_next : {ls : List (List ℕ)} {T T' K ρ : ℕ} {e e' : Expr} {s s' : Store} → LinesTo b s₀ ls T e s → T' ≡ suc T
-      → Run T' K (root_of b) s₀ e' s' → LastStep (root_of b) s₀ T' e' s' ρ
-      → LinesTo b s₀ (ls ++ moment_line T' (name_of ρ) e' s' ∷ []) T' e' s'
+  told_next : {ls : List (List ℕ)} {T T' K : ℕ} {last : Option Named} {e e' : Expr} {s s' : Store} → LinesTo b s₀ ls T e s → T' ≡ suc T
+      → Run T' K (root_of b) s₀ e' s' → LastStep (root_of b) s₀ T' e' s' last
+      → LinesTo b s₀ (ls ++ moment_line T' (name_of last) e' s' ∷ []) T' e' s'
   told_next (lines_to ds) t ds' (no_step z) = absurd (omega arith)
-  told_next {T' = T'} {ρ = ρ} {e' = e'} {s' = s'} (lines_to {T} {e = e} {s = s} ds) t ds' (last_step {r = r} u run d n) =
+  told_next {T' = T'} {last = last} {e' = e'} {s' = s'} (lines_to {T} {e = e} {s = s} ds) t ds' (last_step {ρ = ρ} u run d n) =
       let (q, p, k) = same_end (omega arith) refl refl ds run in
-      let step : ⟨ e ∣ s ⟩⟶⟨ e' ∣ s' ⟩ r = rw (q, p) d in
+      let step : ⟨ e ∣ s ⟩⟶⟨ e' ∣ s' ⟩ rule_of ρ = rw (q, p) d in
       let m = moments_more 0 ds step ds' t refl refl in
-      let w : rule_name r ≡ name_of ρ = rw n (sym (name_is r)) in
+      let w : rule_name (rule_of ρ) ≡ name_of last = rw n refl in
       let n' : suc (0 + T) ≡ T' = omega arith in
       subst (λ (x : List (List ℕ)). LinesTo b s₀ (moment_line 0 (bytes "start") (root_of b) s₀ ∷ x) T' e' s')
       (m ∙ ap₂ (λ (i : ℕ) (name : List ℕ). moment_lines 0 ds ++ moment_line i name e' s' ∷ []) n' w)

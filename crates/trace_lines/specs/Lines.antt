@@ -1,14 +1,16 @@
 -- The lines that `trace` prints of a run, as far as the run has come, and all of them.
-use Rattle.std.specs.Prelude.{ℕ, List, [], ◌∷◌, ◌++◌, get_or}
+use Rattle.std.specs.Prelude.{ℕ, Option, None, Some, List, [], ◌∷◌, ◌++◌}
 use Rattle.l1.specs.Syntax.{Expr}
 use Rattle.l1.specs.Store.{Store}
 use Rattle.l1.specs.Run.{Run, Outcome, value, overflow, fuel, answer, Yields}
-use Rattle.l1.specs.Text.{bytes, decimal, text}
+use Rattle.l1.specs.Text.{bytes, decimal, rule_name, text}
 use Rattle.stored.specs.Trace.{moment_line, moment_lines, last_line}
 use Rattle.routine.specs.Open.{root_of}
+use Rattle.machine.specs.Acts.{rule_of}
 use Rattle.machine.specs.Moment.{meaning, Moment}
 use Rattle.machine.specs.declared.state.Pending.{Pending}
 use Rattle.machine.specs.declared.state.Machine.{Machine}
+use Rattle.machine.specs.declared.state.Rule.{Rule}
 
 -- the line of every moment up to ⟨e, s⟩, which a run from s₀ comes to after T steps
 pub data LinesTo (b : List ℕ) (s₀ : Store) : List (List ℕ) → ℕ → Expr → Store → Type 0 where
@@ -31,13 +33,10 @@ abbrev pub joined : List (List ℕ) → List ℕ
 joined [] = []
 joined (l ∷ ls) = l ++ joined ls
 
--- the names of the rules by their numbers; 0 is the start
-abbrev pub names : List (List ℕ)
-names =
-    bytes "start" ∷ bytes "plus" ∷ bytes "geq" ∷ bytes "deref" ∷ bytes "assign" ∷ bytes "seq" ∷ bytes "if-true" ∷ bytes "if-false" ∷ bytes "while" ∷ []
-
-abbrev pub name_of : ℕ → List ℕ
-name_of ρ = get_or names ρ []
+-- the name of the last step's rule; before the first step it is the start
+abbrev pub name_of : Option Rule → List ℕ
+name_of None = bytes "start"
+name_of (Some ρ) = rule_name (rule_of ρ)
 
 -- the last line up to T
 abbrev pub outcome_text : Outcome → List ℕ

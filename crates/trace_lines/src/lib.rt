@@ -1,4 +1,4 @@
-// The lines that `trace` prints of a run, one after the other, into a lent buffer. It goes on from the last moment, and never starts again.
+// The lines that `trace` prints of a run, one after the other, onto a lent page. It goes on from the last moment, and never starts again.
 
 #![tactic(auto)]
 
@@ -7,26 +7,17 @@ ghost use Rattle.l1.specs.Store.{Store};
 ghost use Rattle.l1.specs.Text.{bytes, decimal};
 ghost use Rattle.stored.specs.Refusals.{locations};
 ghost use Rattle.stored.specs.Trace.{newline, shortened, values_text, moment_line, counts_text, last_line};
-ghost use Rattle.routine.specs.Open.{Runnable, SizesOf};
 ghost use Rattle.machine.specs.State.{Seen, outcome_of};
 ghost use Rattle.machine.specs.Moment.{meaning};
-ghost use Rattle.machine.specs.Lent.{frames_of, pending_of};
-ghost use Rattle.node_text.specs.Put.{Put};
-ghost use Rattle.moment_text.specs.Stand.{Stands, Measured, moment_text};
+ghost use Rattle.node_text.specs.Pages.{Puts};
+ghost use Rattle.moment_text.specs.Stand.{Stands, Measured};
 ghost use Rattle.trace_lines.specs.Lines.{name_of, outcome_text, LinesAt};
 ghost use Rattle.trace_lines.specs.Says.{Tells, Advanced};
 
-use machine::{Ending, Machine, Work};
-use routine::Sizes;
-
-// Where the buffer and the run stand after some lines, and whether the last line is among them.
-#[derive(Drop)]
-pub struct Page {
-    pub at: usize,
-    pub ended: bool,
-    pub height: usize,
-    pub machine: Machine,
-}
+use machine::{Ending, Machine, Pending, Rule};
+use moment_text::Moment;
+use node_text::Page;
+use routine::Program;
 
 // Room for any line: a text of 8,192 bytes, 64 values, and what stands around them.
 const LINE: usize = 10000;
@@ -35,143 +26,112 @@ const LINE: usize = 10000;
 const SHOWN: usize = 8192;
 
 // Each value after one space; none takes more than 22 bytes with it.
-fn put_values(s: &[i32], buf: &mut [u8], at: usize) -> usize
-    requires { at + 22 * length s.now ≤ length buf.old }
-    ensures { Put buf.old at (values_text s.now) buf.new result × (result ≤ at + 22 * length s.now) }
+fn put_values(s: &[i32], page: &mut Page<'_>)
+    requires { page.old.at + 22 * length s.now ≤ length page.old.room.now }
+    ensures { Puts page.old (values_text s.now) page.new × (page.new.at ≤ page.old.at + 22 * length s.now) }
 {
-    let mut p = at;
-    let mut i = 0;
-    while i < s.len() {
-        let q = node_text::put_byte(32, buf, p);
-        p = node_text::put_number(s[i], buf, q);
-        i += 1;
-    }
-    p
-}
-
-fn put_shown(
-    b: &[u8],
-    z: Sizes,
-    places: &[u32],
-    h: usize,
-    x: Work,
-    lengths: &[u32],
-    buf: &mut [u8],
-    at: usize,
-) -> usize
-    requires { Stands b.now z places.now h × Seen b.now x × Measured b.now lengths.now × (at + 8192 ≤ length buf.old) }
-    ensures { Put buf.old at (shortened (moment_text b.now places.now h x)) buf.new result × (result ≤ at + 8192) }
-{
-    let n = moment_text::moment_length(b, z, places, h, x, lengths);
-    if SHOWN < n {
-        let p = node_text::put_byte(35, buf, at);
-        node_text::put_decimal(n as u64, buf, p)
-    } else {
-        moment_text::put_moment(b, z, places, h, x, buf, at)
+    for n in s {
+        page.byte(b' ');
+        page.number(*n);
     }
 }
 
-// The name of a rule, by its number; 0 is the start.
-fn put_rule(rule: u64, buf: &mut [u8], at: usize) -> usize
-    requires { at + 8 ≤ length buf.old }
-    ensures { Put buf.old at (name_of rule) buf.new result × (result ≤ at + 8) }
+fn put_rule(rule: Option<Rule>, page: &mut Page<'_>)
+    requires { page.old.at + 8 ≤ length page.old.room.now }
+    ensures { Puts page.old (name_of rule) page.new × (page.new.at ≤ page.old.at + 8) }
 {
     match rule {
-        0 => node_text::put_bytes(b"start", buf, at),
-        1 => node_text::put_bytes(b"plus", buf, at),
-        2 => node_text::put_bytes(b"geq", buf, at),
-        3 => node_text::put_bytes(b"deref", buf, at),
-        4 => node_text::put_bytes(b"assign", buf, at),
-        5 => node_text::put_bytes(b"seq", buf, at),
-        6 => node_text::put_bytes(b"if-true", buf, at),
-        7 => node_text::put_bytes(b"if-false", buf, at),
-        8 => node_text::put_bytes(b"while", buf, at),
-        _ => at,
+        None => page.text(b"start"),
+        Some(Rule::Plus) => page.text(b"plus"),
+        Some(Rule::Geq) => page.text(b"geq"),
+        Some(Rule::Deref) => page.text(b"deref"),
+        Some(Rule::Assign) => page.text(b"assign"),
+        Some(Rule::Seq) => page.text(b"seq"),
+        Some(Rule::IfTrue) => page.text(b"if-true"),
+        Some(Rule::IfFalse) => page.text(b"if-false"),
+        Some(Rule::While) => page.text(b"while"),
     }
 }
 
 // What stands before the text of a line.
-fn put_head(steps: u64, rule: u64, buf: &mut [u8], at: usize) -> usize
-    requires { at + 30 ≤ length buf.old }
-    ensures { Put buf.old at (decimal steps ++ bytes " " ++ name_of rule ++ bytes " ") buf.new result × (result ≤ at + 30) }
+#[tactic(auto, using(node_text::proofs::NumberLengths::few_digits))]
+fn put_head(steps: u64, rule: Option<Rule>, page: &mut Page<'_>)
+    requires { page.old.at + 30 ≤ length page.old.room.now }
+    ensures { Puts page.old (decimal steps ++ bytes " " ++ name_of rule ++ bytes " ") page.new × (page.new.at ≤ page.old.at + 30) }
 {
-    let p = node_text::put_decimal(steps, buf, at);
-    let q = node_text::put_byte(32, buf, p);
-    let r = put_rule(rule, buf, q);
-    node_text::put_byte(32, buf, r)
+    page.decimal(steps);
+    page.byte(b' ');
+    put_rule(rule, page);
+    page.byte(b' ');
 }
 
 // What stands behind it.
-fn put_tail(s: &[i32], buf: &mut [u8], at: usize) -> usize
-    requires { (length s.now ≤ 64) × (at + 1500 ≤ length buf.old) }
-    ensures { Put buf.old at (bytes " |" ++ values_text s.now ++ newline) buf.new result × (result ≤ at + 1500) }
+fn put_tail(s: &[i32], page: &mut Page<'_>)
+    requires { (length s.now ≤ 64) × (page.old.at + 1500 ≤ length page.old.room.now) }
+    ensures { Puts page.old (bytes " |" ++ values_text s.now ++ newline) page.new × (page.new.at ≤ page.old.at + 1500) }
 {
-    let p = node_text::put_bytes(b" |", buf, at);
-    let q = put_values(s, buf, p);
-    node_text::put_byte(10, buf, q)
+    page.text(b" |");
+    put_values(s, page);
+    page.byte(b'\n');
 }
 
-// The line of a moment.
-pub fn put_line(
-    b: &[u8],
-    z: Sizes,
-    places: &[u32],
-    h: usize,
-    m: Machine,
-    s: &[i32],
-    lengths: &[u32],
-    buf: &mut [u8],
-    at: usize,
-) -> usize
-    requires { Stands b.now z places.now h × Seen b.now m.work × Measured b.now lengths.now × (length s.now ≤ 64) × (at + 10000 ≤ length buf.old) }
-    ensures { Put buf.old at (moment_line m.steps (name_of m.rule) (meaning b.now (pending_of places.now h) m) s.now) buf.new result × (result ≤ at + 10000) }
-{
-    let x = m.work;
-    let p = put_head(m.steps, m.rule, buf, at);
-    let q = put_shown(b, z, places, h, x, lengths, buf, p);
-    put_tail(s, buf, q)
-}
-
-fn put_outcome(ending: Ending, buf: &mut [u8], at: usize) -> usize
-    requires { at + 40 ≤ length buf.old }
-    ensures { Put buf.old at (outcome_text (outcome_of ending)) buf.new result × (result ≤ at + 40) }
+#[tactic(auto, using(node_text::proofs::NumberLengths::few_digits))]
+fn put_outcome(ending: Ending, page: &mut Page<'_>)
+    requires { page.old.at + 40 ≤ length page.old.room.now }
+    ensures { Puts page.old (outcome_text (outcome_of ending)) page.new × (page.new.at ≤ page.old.at + 40) }
 {
     match ending {
         Ending::Int(n) => {
-            let p = node_text::put_bytes(b"value ", buf, at);
-            node_text::put_number(n, buf, p)
+            page.text(b"value ");
+            page.number(n);
         }
         Ending::Bool(t) => {
-            let q = node_text::put_bytes(b"value ", buf, at);
-            node_text::put_truth(t, buf, q)
+            page.text(b"value ");
+            page.truth(t);
         }
-        Ending::Skip => node_text::put_bytes(b"value skip", buf, at),
+        Ending::Skip => page.text(b"value skip"),
         Ending::Overflow(i) => {
-            let u = node_text::put_bytes(b"overflow at ", buf, at);
-            node_text::put_decimal(i as u64, buf, u)
+            page.text(b"overflow at ");
+            page.decimal(u64::from(i));
         }
-        Ending::Fuel => node_text::put_bytes(b"fuel", buf, at),
+        Ending::Fuel => page.text(b"fuel"),
     }
 }
 
-fn put_counts(steps: u64, loops: u64, buf: &mut [u8], at: usize) -> usize
-    requires { at + 60 ≤ length buf.old }
-    ensures { Put buf.old at (counts_text steps loops) buf.new result × (result ≤ at + 60) }
+#[tactic(auto, using(node_text::proofs::NumberLengths::few_digits))]
+fn put_counts(steps: u64, loops: u64, page: &mut Page<'_>)
+    requires { page.old.at + 60 ≤ length page.old.room.now }
+    ensures { Puts page.old (counts_text steps loops) page.new × (page.new.at ≤ page.old.at + 60) }
 {
-    let p = node_text::put_bytes(b" steps ", buf, at);
-    let q = node_text::put_decimal(steps, buf, p);
-    let r = node_text::put_bytes(b" loops ", buf, q);
-    let t = node_text::put_decimal(loops, buf, r);
-    node_text::put_byte(10, buf, t)
+    page.text(b" steps ");
+    page.decimal(steps);
+    page.text(b" loops ");
+    page.decimal(loops);
+    page.byte(b'\n');
 }
 
 // The last line.
-fn put_last(ending: Ending, steps: u64, loops: u64, buf: &mut [u8], at: usize) -> usize
-    requires { at + 100 ≤ length buf.old }
-    ensures { Put buf.old at (last_line (outcome_of ending) steps loops) buf.new result × (result ≤ at + 100) }
+fn put_last(ending: Ending, steps: u64, loops: u64, page: &mut Page<'_>)
+    requires { page.old.at + 100 ≤ length page.old.room.now }
+    ensures { Puts page.old (last_line (outcome_of ending) steps loops) page.new × (page.new.at ≤ page.old.at + 100) }
 {
-    let p = put_outcome(ending, buf, at);
-    put_counts(steps, loops, buf, p)
+    put_outcome(ending, page);
+    put_counts(steps, loops, page);
+}
+
+// A moment's text, or its length where it is too long to be shown.
+#[tactic(auto, using(node_text::proofs::NumberLengths::few_digits))]
+fn put_shown(moment: &Moment<'_>, page: &mut Page<'_>)
+    requires { page.old.at + 8192 ≤ length page.old.room.now }
+    ensures { Puts page.old (shortened moment.now) page.new × (page.new.at ≤ page.old.at + 8192) }
+{
+    let n = moment.length();
+    if SHOWN < n {
+        page.byte(b'#');
+        page.decimal(n as u64);
+    } else {
+        moment.put(page);
+    }
 }
 
 // One step more, but not beyond the fuel.
@@ -179,95 +139,88 @@ fn next_limit(steps: u64, fuel: u64) -> u64
     requires { (steps ≤ fuel) × (fuel < 4294967296) }
     ensures { (result ≤ fuel) × (steps ≤ result) × (result ≤ steps + 1) × (steps < fuel → steps < result) }
 {
-    if steps < fuel { steps + 1 } else { fuel }
+    fuel.min(steps + 1)
 }
 
-// The next line: that of the moment after one step more, or the last.
-fn next_line(
-    b: &[u8],
-    z: Sizes,
-    places: &mut [u32],
-    height: usize,
-    machine: Machine,
-    s: &mut [i32],
-    fuel: u64,
-    lengths: &[u32],
-    buf: &mut [u8],
-    at: usize,
-) -> Page
-    requires fuel_bound { (fuel < 4294967296) × (machine.steps ≤ fuel) × Measured b.now lengths.now × (length s.old ≤ 64) × (at + 10000 ≤ length buf.old) × SizesOf b.now z }
-    requires by_index { (s₀ : Store) × (ls : List (List ℕ)) × LinesAt b.now s₀ ls (pending_of places.old height) machine s.old }
-    ensures { ((s₀ : Store) (ls : List (List ℕ)) → LinesAt b.now s₀ ls (pending_of places.old height) machine s.old → Tells b.now s₀ fuel ls buf.old at buf.new (pending_of places.new result.height) s.new result) × Advanced fuel machine.steps (length buf.old) result }
-{
-    let steps = machine.steps;
-    let limit = next_limit(steps, fuel);
-    let stand = machine::go_to(b, z, places, height, machine, s, limit);
-    let ending = stand.ending;
-    let m = stand.machine;
-    let h = stand.height;
-    if m.steps == steps {
-        return Page {
-            at: put_last(ending, m.steps, m.loops, buf, at),
-            ended: true,
-            height: h,
-            machine: m,
-        };
-    }
-    Page {
-        at: put_line(b, z, places, h, m, s, lengths, buf, at),
-        ended: false,
-        height: h,
-        machine: m,
-    }
+// What the lines of a run are told by: its routine, the lengths of the nodes' texts, and the fuel.
+#[derive(Drop)]
+pub struct Teller<'a> {
+    pub program: &'a Program<'a>,
+    pub lengths: &'a [u32],
+    pub fuel: u32,
+    ghost measured: { Measured program.now lengths.now },
 }
 
-// The next lines, until the last is among them or there might be no room for one more.
-pub fn fill_page(
-    b: &[u8],
-    z: Sizes,
-    places: &mut [u32],
-    height: usize,
-    machine: Machine,
-    s: &mut [i32],
-    fuel: u64,
-    lengths: &[u32],
-    buf: &mut [u8],
-    at: usize,
-) -> Page
-    requires fuel_bound { (fuel < 4294967296) × (machine.steps ≤ fuel) × Measured b.now lengths.now × (length s.old ≤ 64) × (at + 10000 ≤ length buf.old) × SizesOf b.now z }
-    requires by_index { (s₀ : Store) × (ls : List (List ℕ)) × LinesAt b.now s₀ ls (pending_of places.old height) machine s.old }
-    ensures { ((s₀ : Store) (ls : List (List ℕ)) → LinesAt b.now s₀ ls (pending_of places.old height) machine s.old → Tells b.now s₀ fuel ls buf.old at buf.new (pending_of places.new result.height) s.new result) × Advanced fuel machine.steps (length buf.old) result }
-{
-    let mut page = Page {
-        at: at,
-        ended: false,
-        height: height,
-        machine: machine,
-    };
-    let room = buf.len() - LINE;
-    while (!page.ended) & (page.at <= room) {
-        let m = page.machine;
-        let h = page.height;
-        let p = page.at;
-        page = next_line(b, z, places, h, m, s, fuel, lengths, buf, p);
+impl<'a> Teller<'a> {
+    // The line of a moment.
+    pub fn put_line(&self, pending: &Pending, m: Machine, s: &[i32], page: &mut Page<'_>)
+        requires { Stands self.now.program.now pending.now × Seen self.now.program.now m.work × (length s.now ≤ 64) × (page.old.at + 10000 ≤ length page.old.room.now) }
+        ensures { Puts page.old (moment_line m.steps (name_of m.rule) (meaning self.now.program.now pending.now m) s.now) page.new × (page.new.at ≤ page.old.at + 10000) }
+    {
+        let moment = Moment::of(self.program.row(), pending, m.work, self.lengths);
+        put_head(m.steps, m.rule, page);
+        put_shown(&moment, page);
+        put_tail(s, page);
     }
-    page
-}
 
-// The first lines, from the start on.
-pub fn first_page(
-    b: &[u8],
-    z: Sizes,
-    places: &mut [u32],
-    s: &mut [i32],
-    fuel: u64,
-    lengths: &[u32],
-    buf: &mut [u8],
-) -> Page
-    requires { Runnable b.now × (locations b.now ≤ length s.old) × (length s.old ≤ 64) × (length (frames_of places.old) ≡ 256) × Measured b.now lengths.now × (fuel < 4294967296) × (20000 ≤ length buf.old) × SizesOf b.now z }
-    ensures { Tells b.now s.old fuel [] buf.old 0 buf.new (pending_of places.new result.height) s.new result × Advanced fuel 0 (length buf.old) result }
-{
-    let first = machine::start(b, z, (z.nodes - 1) as u32);
-    let at = put_line(b, z, places, 0, first, s, lengths, buf, 0);
-    fill_page(b, z, places, 0, first, s, fuel, lengths, buf, at)
+    // The next line: that of the moment after one step more, where the machine stands then, or the last.
+    fn next_line(
+        &self,
+        pending: &mut Pending,
+        machine: Machine,
+        s: &mut [i32],
+        page: &mut Page<'_>,
+    ) -> Option<Machine>
+        requires bounds { (machine.steps ≤ self.now.fuel) × (length s.old ≤ 64) × (page.old.at + 10000 ≤ length page.old.room.now) }
+        requires by_index { (s₀ : Store) × (ls : List (List ℕ)) × LinesAt self.now.program.now s₀ ls pending.old machine s.old }
+        ensures { ((s₀ : Store) (ls : List (List ℕ)) → LinesAt self.now.program.now s₀ ls pending.old machine s.old → Tells self.now.program.now s₀ self.now.fuel ls page.old page.new pending.new s.new result) × Advanced self.now.fuel machine.steps page.new result }
+    {
+        let steps = machine.steps;
+        let fuel = u64::from(self.fuel);
+        let limit = next_limit(steps, fuel);
+        let stand = machine::go_on(self.program.row(), pending, machine, s, limit);
+        let m = stand.machine;
+        if m.steps == steps {
+            put_last(stand.ending, m.steps, m.loops, page);
+            return None;
+        }
+        self.put_line(pending, m, s, page);
+        Some(m)
+    }
+
+    // The next lines, until the last is among them or there might be no room for one more. It answers where the machine stands, None where all is told.
+    pub fn fill_page(
+        &self,
+        pending: &mut Pending,
+        mut machine: Machine,
+        s: &mut [i32],
+        page: &mut Page<'_>,
+    ) -> Option<Machine>
+        requires bounds { (machine.steps ≤ self.now.fuel) × (length s.old ≤ 64) × (page.old.at + 10000 ≤ length page.old.room.now) }
+        requires by_index { (s₀ : Store) × (ls : List (List ℕ)) × LinesAt self.now.program.now s₀ ls pending.old machine s.old }
+        ensures { ((s₀ : Store) (ls : List (List ℕ)) → LinesAt self.now.program.now s₀ ls pending.old machine s.old → Tells self.now.program.now s₀ self.now.fuel ls page.old page.new pending.new s.new result) × Advanced self.now.fuel machine.steps page.new result }
+    {
+        loop {
+            machine = self.next_line(pending, machine, s, page)?;
+            if page.room.len() - LINE < page.at {
+                return Some(machine);
+            }
+        }
+    }
+
+    // The first lines, from the start on.
+    pub fn first_page(
+        &self,
+        pending: &mut Pending,
+        s: &mut [i32],
+        page: &mut Page<'_>,
+    ) -> Option<Machine>
+        requires { (locations self.now.program.now ≤ length s.old) × (length s.old ≤ 64) × (length pending.old.frames ≡ 256) × (page.old.at + 20000 ≤ length page.old.room.now) }
+        ensures { Tells self.now.program.now s.old self.now.fuel [] page.old page.new pending.new s.new result × Advanced self.now.fuel 0 page.new result }
+    {
+        pending.height = 0;
+        let first = machine::start(self.program.row());
+        self.put_line(pending, first, s, page);
+        self.fill_page(pending, first, s, page)
+    }
 }

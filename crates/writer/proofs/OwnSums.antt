@@ -1,5 +1,5 @@
 -- The length of a text is the sum of what each node itself adds: a tree that stands at a node adds the length of its text.
-use Prim.Native.Nat.{ℕ, zero, suc, ◌+◌, ◌≤◌}
+use Prim.Native.Nat.{ℕ, zero, suc, ◌+◌}
 use native.Mathlib.Numerals.{add-one}
 use native.Mathlib.Omega.{arith}
 use mathlib.Core.Path.{◌≡◌}
@@ -10,9 +10,9 @@ use Rattle.l1.specs.Syntax.{plus, geq, Expr}
 use Rattle.l1.specs.Measures.{size}
 use Rattle.l1.specs.Text.{decimal, text}
 use Rattle.stored.specs.Layout.{kind, arg, TreeAt, at_int, at_bool, at_op, at_if, at_assign, at_deref, at_skip, at_seq, at_while}
+use Rattle.stored.specs.Refusals.{count}
 use Rattle.routine.specs.Forms.{form_of, integer_of}
-use Rattle.routine.specs.Open.{root_of, IsOpen}
-use Rattle.routine.specs.declared.Sizes.{Sizes}
+use Rattle.routine.specs.Open.{root_of, Opened}
 use Rattle.routine.proofs.Standing.{root_size}
 use Rattle.writer.specs.Own.{own_length}
 
@@ -64,8 +64,8 @@ module _ (b : List ℕ) where
   tree (at_while {i = i} {e₁ = e₁} {e₂ = e₂} n p q t₁ t₂) f h =
       simp length-append (omega (arith, two i 17 f e₁ e₂ (rw n.its_kind) h (tree t₁ f (omega arith)) (tree t₂ (f + size e₁) (omega arith))))
 
-pub length_all : {b : List ℕ} {z : Sizes} {i : ℕ} → IsOpen b z → z.nodes ≤ i → i ≤ z.nodes → length_to b i ≡ length (text (root_of b))
-length_all {b} {i = i} o l l' =
+pub length_all : {b : List ℕ} (i : ℕ) → Opened b → i ≡ count b → length_to b i ≡ length (text (root_of b))
+length_all {b} i o e =
     let s = root_size o.opens o.holds in
-    let q : i ≡ 0 + size (root_of b) = omega (arith, o.sizes.0) in
+    let q : i ≡ 0 + size (root_of b) = omega arith in
     rw q (omega (arith, tree b o.holds.tree 0 (omega (arith, o.holds.is_last))))

@@ -5,26 +5,21 @@
 ghost use Rattle.std.specs.Prelude.{◌≡◌, ◌≤◌, length};
 ghost use Rattle.l1.specs.Text.{text};
 ghost use Rattle.text_form.specs.Showing.{Shows};
-ghost use Rattle.routine.specs.Open.{root_of, IsOpen};
+ghost use Rattle.routine.specs.Open.{root_of};
 ghost use Rattle.writer.specs.Says.{shown_of};
 ghost use Rattle.writer.specs.Own.{own_length};
 
-use opener::Opened;
-use routine::{Form, Refusal, Sizes};
+use node_text::Page;
+use routine::{Form, Refusal, Routine};
 
-// A refusal, or the length of the text that was written.
-#[derive(Drop)]
-pub enum Written {
-    Refused(Refusal),
-    Text(usize),
-}
-
-// Writes the text, which has room.
-fn put(b: &[u8], z: Sizes, buf: &mut [u8]) -> Written
-    requires { IsOpen b.now z × (length (text (root_of b.now)) ≤ length buf.old) }
-    ensures { Shows b.now buf.old (shown_of result) buf.new }
+// Writes the text, which has room, and tells its length.
+fn put(row: &Routine<'_>, buf: &mut [u8]) -> usize
+    requires { length (text (root_of row.now)) ≤ length buf.old }
+    ensures { Shows row.now buf.old (shown_of (Ok result)) buf.new }
 {
-    Written::Text(node_text::put_tree(b, z, (z.nodes - 1) as u32, buf, 0))
+    let mut page = Page { room: buf, at: 0 };
+    node_text::put_tree(row, row.root(), &mut page);
+    page.at
 }
 
 // What a node's own form adds to the text: all but the texts of its children.
@@ -37,8 +32,8 @@ fn own_length(f: Form, arg: u8, number: i32) -> usize
         Form::Plus => 5,
         Form::Geq => 6,
         Form::If => 17,
-        Form::Assign => 7 + node_text::width(arg as u64),
-        Form::Deref => 2 + node_text::width(arg as u64),
+        Form::Assign => 7 + node_text::width(u64::from(arg)),
+        Form::Deref => 2 + node_text::width(u64::from(arg)),
         Form::Skip => 4,
         Form::Seq => 5,
         Form::While => 17,
@@ -47,42 +42,38 @@ fn own_length(f: Form, arg: u8, number: i32) -> usize
 }
 
 // The length of the text: what each node adds, in one pass over them.
-fn text_length(b: &[u8], z: Sizes) -> usize
-    requires { IsOpen b.now z }
-    ensures { result ≡ length (text (root_of b.now)) }
+fn text_length(row: &Routine<'_>) -> usize
+    ensures { result ≡ length (text (root_of row.now)) }
 {
-    let mut n = 0;
-    let mut i = 0;
-    while i < z.nodes {
-        let d = routine::read(b, z, i);
-        let f = d.form;
-        n += own_length(f, d.arg, d.number);
-        i += 1;
+    let mut length = 0;
+    for i in 0..row.nodes() {
+        let d = row.node(i);
+        length += own_length(d.form, d.arg, d.number);
     }
-    n
+    length
 }
 
-// The text of a routine that was opened. It has at most 14 bytes for each node: where the buffer has that room, nothing is measured.
-fn write_open(b: &[u8], z: Sizes, buf: &mut [u8]) -> Written
-    requires { IsOpen b.now z }
-    ensures { Shows b.now buf.old (shown_of result) buf.new }
+// No text has more bytes than these for each node.
+const MOST_OF_A_NODE: usize = 14;
+
+// The text of a routine that was opened. Where the buffer has room for the longest text of so many nodes, nothing is measured.
+fn write_open(row: &Routine<'_>, buf: &mut [u8]) -> Result<usize, Refusal>
+    ensures { Shows row.now buf.old (shown_of result) buf.new }
 {
-    if z.nodes <= buf.len() / 14 {
-        return put(b, z, buf);
+    if row.nodes() <= buf.len() / MOST_OF_A_NODE {
+        return Ok(put(row, buf));
     }
-    let n = text_length(b, z);
+    let n = text_length(row);
     if buf.len() < n {
-        return Written::Refused(Refusal::Buffer(n as u64));
+        return Err(Refusal::Buffer(n as u64));
     }
-    put(b, z, buf)
+    Ok(put(row, buf))
 }
 
 // The text of the routine that the bytes hold. A refusal changes no byte of the buffer.
-pub fn write(b: &[u8], buf: &mut [u8]) -> Written
+pub fn write(b: &[u8], buf: &mut [u8]) -> Result<usize, Refusal>
     ensures { Shows b.now buf.old (shown_of result) buf.new }
 {
-    match opener::open(b) {
-        Opened::Refused(r) => Written::Refused(r),
-        Opened::Routine(z) => write_open(b, z, buf),
-    }
+    let row = opener::open(b)?;
+    write_open(&row, buf)
 }

@@ -11,22 +11,22 @@ turn : (s : List ℕ) (v i d : ℕ) → i < length s → d ≡ get_or s i 0 - 48
 unfolding value_from
 turn s v i d l q e = rw (q, add-one i) (rw (drop-cons s i 0 l) at e)
 
-pub returns-then-top-v : goal.returns-then-top-v
-returns-then-top-v c =
-    let s = c.args.s.now in let l = c.loop-i in
+pub returns-then-from-v : goal.returns-then-from-v
+returns-then-from-v c =
+    let s = c.args.s.now in let l = c.loop-c in
     omega (
       arith,
-      value_least (10 * l.v + c.digit.result) (drop (l.i + 1) s),
-      turn s l.v l.i c.digit.result c.loop-i-test.true c.digit.ensures.0 l.invariant.2,
+      value_least (10 * l.v + c.from.result) (drop (l.c-index + 1) s),
+      turn s l.v l.c-index c.from.result c.loop-c-test.true (omega arith) l.invariant.1,
     )
 
-pub loop-i-preserved : goal.loop-i-preserved
-loop-i-preserved c =
-    let l = c.loop-i in
-    (omega arith, omega arith, turn c.args.s.now l.v l.i c.digit.result c.loop-i-test.true c.digit.ensures.0 l.invariant.2)
+pub loop-c-preserved : goal.loop-c-preserved
+loop-c-preserved c =
+    let l = c.loop-c in
+    (omega arith, turn c.args.s.now l.v l.c-index c.from.result c.loop-c-test.true (omega arith) l.invariant.1)
 
 pub returns : goal.returns
 unfolding value_from
 returns c =
-    let l = c.loop-i in
-    (rw (drop_of_length-le c.args.s.now {i = l.i} c.loop-i-test.false) at l.invariant.2, l.invariant.1)
+    let l = c.loop-c in
+    (rw (drop_of_length-le c.args.s.now {i = l.c-index} c.loop-c-test.false) at l.invariant.1, l.invariant.0)

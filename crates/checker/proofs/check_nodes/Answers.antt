@@ -1,54 +1,63 @@
 -- One node more: its fault and its type by the table, and what W and the two words get from it; and what all of them tell.
-use Rattle.std.proofs.Common.{refl, sym, ◌∙◌, arith}
-use Rattle.std.proofs.Math.ListN.{length-set}
+use Rattle.std.proofs.Common.{◌<◌, refl, ◌∙◌, arith}
+use Rattle.stored.specs.Refusals.{count}
+use Rattle.std.proofs.Math.ListN.{length-set, length-replicate}
 use Rattle.l1.specs.Sets.{reading, writing, word}
 use Rattle.l1.proofs.NodeSums.{work_of, uses_of}
-use Rattle.checker.proofs.TypeTurn.{its_fault, faulty, passed, all_passed}
+use Rattle.routine.proofs.KindTags.{tag_is_kind}
+use Rattle.checker.proofs.TypeTurn.{faulty, clear, passed, all_passed}
 use Rattle.checker.proofs.Counting.{arg_small, work_turn, word_turn, work_all, word_all}
+use Rattle.checker.specs.declared.Ty.TheVariants.{Int}
 use Rattle.checker.proofs.check_nodes.Goals as goal
 
 pub loop-i-init : goal.loop-i-init
 unfolding work_of uses_of word
-loop-i-init c = (omega arith, refl, (λ j l. absurd (omega arith)), omega arith, refl, refl, refl, refl)
+loop-i-init g c = record {
+  room = simp length-replicate;
+  past = λ j l. absurd (omega arith);
+  few = omega arith;
+  work = refl;
+  kinds = refl;
+  reads = refl;
+  writes = refl;
+}
 
-pub returns-then-c-ne0 : goal.returns-then-c-ne0
-returns-then-c-ne0 c =
-    let p = c.requires in
-    faulty _ p.0 p.3 c.loop-i.invariant.2 c.loop-i-test.true c.read-d.ensures c.node_fault-c.ensures c.if-c-ne0.true
+pub returns-in-Some : goal.returns-in-Some
+returns-in-Some g c =
+    let v = c.loop-i.invariant in let o = c.nodes-n.ensures.opened in
+    faulty o (rw v.room c.requires.2) v.past (omega arith) c.node-d.ensures.is c.locations-m.ensures.is _ c.in-Some.ensures
 
 pub bit_of-requires : goal.bit_of-requires
-bit_of-requires c =
-    let p = c.requires in let l = c.loop-i-test.true in
-    let q = its_fault _ p.0 p.3 c.loop-i.invariant.2 l c.read-d.ensures c.node_fault-c.ensures in
-    arg_small p.0 l c.read-d.ensures (sym q ∙ c.if-c-ne0.false)
+bit_of-requires g c =
+    let v = c.loop-i.invariant in let o = c.nodes-n.ensures.opened in
+    arg_small o (omega arith) c.node-d.ensures.is
+    (clear o (rw v.room c.requires.2) v.past (omega arith) c.node-d.ensures.is c.locations-m.ensures.is c.in_default.ensures)
 
 pub loop-i-preserved : goal.loop-i-preserved
-loop-i-preserved c =
-    let p = c.requires in
-    let l = c.loop-i-test.true in
-    let q = c.read-d.ensures in
-    let kind = c.kind_of-k.ensures.0 in
-    let (few, long, past, small, w, room, r, s) = c.loop-i.invariant in (
-      omega arith,
-      simp length-set (omega arith),
-      passed _ p.0 p.3 past l q c.node_fault-c.ensures c.if-c-ne0.false (rw (c.type_of.ensures, c.entry.ensures)) (omega (arith, p.1)),
-      omega (arith, c.work_of-working.ensures.1),
-      work_turn p.0 l q w c.work_of-working.ensures.0,
-      simp length-set room,
-      word_turn p.0 l q reading c.loop-i.named room r kind c.bit_of.ensures,
-      word_turn p.0 l q writing c.loop-i.named room s kind c.bit_of.ensures,
-    )
+loop-i-preserved g c =
+    let v = c.loop-i.invariant in
+    let o = c.nodes-n.ensures.opened in
+    let l : c.loop-i.i < count c.args.row.now = omega arith in
+    let q = c.node-d.ensures.is in record {
+      room = simp length-set v.room;
+      past = passed o (rw v.room c.requires.2) v.past l q c.locations-m.ensures.is c.in_default.ensures _ (rw (c.entry.ensures Int) at c.type_of.ensures) (omega arith);
+      few = omega (arith, c.work_of-working.ensures.1);
+      work = work_turn o l q v.work c.work_of-working.ensures.0;
+      kinds = simp length-set v.kinds;
+      reads = word_turn o l q reading c.loop-i.named v.kinds v.reads (tag_is_kind _) c.bit_of.ensures;
+      writes = word_turn o l q writing c.loop-i.named v.kinds v.writes (tag_is_kind _) c.bit_of.ensures;
+    }
 
 pub returns : goal.returns
-returns c =
-    let p = c.requires in let l = c.loop-i-test.false in
-    let (few, long, past, small, w, room, r, s) = c.loop-i.invariant in
-    let (typed, e) = all_passed _ p.0 p.3 past l in (
+returns g c =
+    let v = c.loop-i.invariant in
+    let o = c.nodes-n.ensures.opened in
+    let (typed, type) = all_passed o (rw v.room c.requires.2) v.past c.nodes-n.ensures.is c.loop-i-test.false in (
       typed,
       record {
-        its_type = e;
-        its_working = w ∙ work_all p.0 l;
-        its_reads = r ∙ word_all p.0 l reading;
-        its_writes = s ∙ word_all p.0 l writing;
+        its_type = type;
+        its_working = v.work ∙ work_all o (omega arith);
+        its_reads = v.reads ∙ word_all o (omega arith) reading;
+        its_writes = v.writes ∙ word_all o (omega arith) writing;
       },
     )

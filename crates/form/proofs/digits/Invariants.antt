@@ -1,10 +1,6 @@
 -- At the loop's head the bytes from i up to k are digits.
-use Rattle.std.proofs.Common.{length, ◌-◌}
 use Rattle.form.proofs.Numbers.{Passed}
 use Rattle.form.proofs.digits.Given as goal
 
 abbrev pub invariant-loop-k : goal.invariant-loop-k
 invariant-loop-k l = Passed l.t l.i l.k
-
-abbrev pub decreases-loop-k : goal.decreases-loop-k
-decreases-loop-k l = length l.t - l.k

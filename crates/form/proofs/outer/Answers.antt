@@ -1,20 +1,19 @@
 -- One byte further back: a closing bracket, the open bracket that was looked for, another open bracket, or no bracket.
-use Rattle.std.proofs.Common.{arith, refl}
+use Rattle.std.proofs.Common.{arith}
 use Rattle.form.proofs.Tables as table
 use Rattle.form.proofs.outer.Goals as goal
 
-pub loop-j-preserved-then-b-eq41 : goal.loop-j-preserved-then-b-eq41
-loop-j-preserved-then-b-eq41 c = (table.counted_close c.loop-j.invariant.0 c.loop-j-test.true refl c.if-b-eq41.true, omega arith)
+pub loop-i-preserved-in-41 : goal.loop-i-preserved-in-41
+loop-i-preserved-in-41 c = (table.counted_close c.loop-i.invariant.0 c.loop-i-test.true c.in-41.is, omega arith)
 
-pub returns-then-k-eq0 : goal.returns-then-k-eq0
-returns-then-k-eq0 c = table.counted_found c.loop-j.invariant.0 c.loop-j-test.true refl c.if-b-eq40.true c.if-k-eq0.true
+pub returns-in-40 : goal.returns-in-40
+returns-in-40 c = table.counted_found c.loop-i.invariant.0 c.loop-i-test.true c.in-40.is c.if-closed-eq0.true
 
-pub loop-j-preserved-then-b-eq40 : goal.loop-j-preserved-then-b-eq40
-loop-j-preserved-then-b-eq40 c =
-    (table.counted_open c.loop-j.invariant.0 c.loop-j-test.true refl c.if-b-eq40.true c.if-k-eq0.false, omega arith)
+pub loop-i-preserved-in-40-2 : goal.loop-i-preserved-in-40-2
+loop-i-preserved-in-40-2 c = (table.counted_open c.loop-i.invariant.0 c.loop-i-test.true c.in-40.is c.if-closed-eq0.false, omega arith)
 
-pub loop-j-preserved : goal.loop-j-preserved
-loop-j-preserved c = (table.counted_other c.loop-j.invariant.0 c.loop-j-test.true refl c.if-b-eq41.false c.if-b-eq40.false, omega arith)
+pub loop-i-preserved : goal.loop-i-preserved
+loop-i-preserved c = (table.counted_other c.loop-i.invariant.0 c.loop-i-test.true (λ e. omega arith) (λ e. omega arith), omega arith)
 
 pub returns : goal.returns
-returns c = table.counted_none c.loop-j.invariant.0 c.loop-j-test.false
+returns c = table.counted_none c.loop-i.invariant.0 c.loop-i-test.false

@@ -1,10 +1,7 @@
--- At the loop's head the k innermost forms open before j are closed before i, and the others are open there too.
-use Rattle.std.proofs.Common.{◌+◌, ◌≤◌}
+-- At the loop's head the innermost forms that are open before the bytes seen, as many as are counted, are closed behind them.
+use Rattle.std.proofs.Common.{◌+◌, ◌≤◌, length}
 use Rattle.form.proofs.Tables.{Counted}
 use Rattle.form.proofs.outer.Given as goal
 
-abbrev pub invariant-loop-j : goal.invariant-loop-j
-invariant-loop-j l = Counted l.t l.i l.j l.k × (l.k + l.j ≤ l.i)
-
-abbrev pub decreases-loop-j : goal.decreases-loop-j
-decreases-loop-j l = l.j
+abbrev pub invariant-loop-i : goal.invariant-loop-i
+invariant-loop-i l = Counted l.before l.i l.closed × (l.closed + l.i ≤ length l.before)

@@ -1,12 +1,12 @@
--- At the loop's head the bytes before i fit, and the table has the innermost levels. Each turn goes past a byte.
-use Rattle.std.proofs.Common.{length, ◌-◌, ◌≡◌}
+-- At the loop's head the bytes before the point fit, and the table has the innermost levels. Each turn goes past a byte.
+use Rattle.std.proofs.Common.{length, ◌-◌}
 use Rattle.form.specs.Levels.{levels}
-use Rattle.form.specs.Places.{State}
+use Rattle.form.specs.Places.{Stands, offset}
 use Rattle.form.specs.Table.{Kept}
 use Rattle.form.proofs.pass.Given as goal
 
-abbrev pub invariant-loop-k : goal.invariant-loop-k
-invariant-loop-k l = (State l.t l.i l.l l.complete × Kept (levels l.t l.i) l.tab l.h) × (length l.tab ≡ length l.initial.tab)
+abbrev pub invariant-loop-next : goal.invariant-loop-next
+invariant-loop-next g l = Stands l.t l.point × Kept (levels l.t (offset l.point)) l.table.levels l.table.height
 
-abbrev pub decreases-loop-k : goal.decreases-loop-k
-decreases-loop-k l = length l.t - l.i
+abbrev pub decreases-loop-next : goal.decreases-loop-next
+decreases-loop-next g l = length l.t - offset l.point

@@ -1,30 +1,11 @@
--- The first byte tells the expression.
+-- A bracket, or an expression without parts.
+use Rattle.form.specs.Places.{Wanted}
 use Rattle.form.proofs.Telling as tell
+use Rattle.form.proofs.Numbers.{exit}
 use Rattle.form.proofs.want_at.Goals as goal
 
-pub returns-then-b-eq40 : goal.returns-then-b-eq40
-returns-then-b-eq40 c = tell.want_open c.peek-b.ensures c.if-b-eq40.true c.opened_at.ensures
+pub returns-in_err-byte : goal.returns-in_err-byte
+returns-in_err-byte c = exit (Wanted _ _) _ c.from_residual.ensures.1 (tell.want_end c.in_err-byte.ensures.0 c.in_err-byte.ensures.1)
 
-pub returns-then-b-eq116 : goal.returns-then-b-eq116
-returns-then-b-eq116 c = tell.want_true c.peek-b.ensures c.if-b-eq116.true c.spelled.ensures
-
-pub returns-then-b-eq102 : goal.returns-then-b-eq102
-returns-then-b-eq102 c = tell.want_false c.peek-b.ensures c.if-b-eq102.true c.spelled-then-b-eq102.ensures
-
-pub returns-then-b-eq115 : goal.returns-then-b-eq115
-returns-then-b-eq115 c = tell.want_skip c.peek-b.ensures c.if-b-eq115.true c.spelled-then-b-eq115.ensures
-
-pub returns-then-b-eq45 : goal.returns-then-b-eq45
-returns-then-b-eq45 c = tell.want_minus c.peek-b.ensures c.if-b-eq45.true c.positive_at.ensures c.value.ensures
-
-pub returns-then-peek-eq108 : goal.returns-then-peek-eq108
-returns-then-peek-eq108 c =
-    tell.want_location c.peek-b.ensures c.if-b-eq33.true c.peek.ensures c.if-peek-eq108.true c.natural_at.ensures c.value-then-peek-eq108.ensures
-
-pub returns-then-b-eq33 : goal.returns-then-b-eq33
-returns-then-b-eq33 c = tell.want_no_location c.peek-b.ensures c.if-b-eq33.true c.peek.ensures c.if-peek-eq108.false
-
-pub returns : goal.returns
-returns c =
-    tell.want_number c.peek-b.ensures c.if-b-eq45.false c.if-b-eq116.false c.if-b-eq102.false c.if-b-eq115.false c.if-b-eq33.false c.if-b-eq40.false
-    c.natural_at-2.ensures c.value-2.ensures
+pub returns-in-40 : goal.returns-in-40
+returns-in-40 c = tell.want_open c.in_ok-byte.ensures.0 c.in-40.is c.opened_at.ensures

@@ -2,8 +2,8 @@
 use Rattle.std.proofs.Common.{length, ◌-◌, ◌≡◌, ◌≤◌}
 use Rattle.input.proofs.fill.Given as goal
 
-abbrev pub invariant-loop-done : goal.invariant-loop-done
-invariant-loop-done g l = (length l.room ≡ length l.initial.room) × (l.done ≤ length l.room)
+abbrev pub invariant-loop-count : goal.invariant-loop-count
+invariant-loop-count g l = (length l.room ≡ length l.initial.room) × (l.count ≤ length l.room)
 
-abbrev pub decreases-loop-done : goal.decreases-loop-done
-decreases-loop-done g l = length l.room - l.done
+abbrev pub decreases-loop-count : goal.decreases-loop-count
+decreases-loop-count g l = length l.room - l.count

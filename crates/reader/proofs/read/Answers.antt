@@ -6,11 +6,11 @@ use Rattle.reader.proofs.read.Goals as goal
 pub returns-then-m-gt64 : goal.returns-then-m-gt64
 returns-then-m-gt64 c = refused_4 c.if-m-gt64.true
 
-pub read_with-requires : goal.read_with-requires
-read_with-requires c = (omega arith, omega arith, enough_short (omega (arith, c.if-t-le384.true)))
+pub read_in-requires : goal.read_in-requires
+read_in-requires c = (omega arith, omega arith, enough_short (omega arith))
 
-pub read_with-requires-then-t-le1536 : goal.read_with-requires-then-t-le1536
-read_with-requires-then-t-le1536 c = (omega arith, omega arith, enough_short (omega (arith, c.if-t-le1536.true)))
+pub read_in-requires-in-385-to-1536 : goal.read_in-requires-in-385-to-1536
+read_in-requires-in-385-to-1536 c = (omega arith, omega arith, enough_short (omega arith))
 
-pub read_with-requires-2 : goal.read_with-requires-2
-read_with-requires-2 c = (omega arith, omega arith, enough_long (omega arith))
+pub read_in-requires-in_default : goal.read_in-requires-in_default
+read_in-requires-in_default c = (omega arith, omega arith, enough_long (omega arith))

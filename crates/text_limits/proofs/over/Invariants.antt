@@ -1,11 +1,8 @@
--- The value up to k and the digits from there on note the whole number.
-use Rattle.std.proofs.Common.{length, ◌-◌, ◌≡◌, ◌≤◌, drop}
+-- The value of the digits so far and the digits to come note the whole number.
+use Rattle.std.proofs.Common.{◌≡◌, ◌≤◌, drop}
 use Rattle.text_form.specs.Digits.{digits_of, value_from}
 use Rattle.text_limits.specs.Marks.{value}
 use Rattle.text_limits.proofs.over.Given as goal
 
-abbrev pub invariant-loop-k : goal.invariant-loop-k
-invariant-loop-k l = (l.k ≤ length l.t) × (l.v ≤ l.bound) × (value (drop l.i l.t) ≡ value_from l.v (digits_of (drop l.k l.t)))
-
-abbrev pub decreases-loop-k : goal.decreases-loop-k
-decreases-loop-k l = length l.t - l.k
+abbrev pub invariant-loop-b : goal.invariant-loop-b
+invariant-loop-b l = (l.v ≤ l.bound) × (value l.t ≡ value_from l.v (digits_of (drop l.b-index l.t)))

@@ -1,11 +1,8 @@
--- The values below i are written, none in more than 22 bytes; the measure is what is left of them.
-use Rattle.std.proofs.Common.{length, take, ◌+◌, ◌*◌, ◌-◌, ◌≤◌}
+-- The values below the index are written, none in more than 22 bytes.
+use Rattle.std.proofs.Common.{take, ◌+◌, ◌*◌, ◌≤◌}
 use Rattle.stored.specs.Trace.{values_text}
-use Rattle.node_text.specs.Put.{Put}
+use Rattle.node_text.specs.Pages.{Puts}
 use Rattle.trace_lines.proofs.put_values.Given as goal
 
-abbrev pub invariant-loop-i : goal.invariant-loop-i
-invariant-loop-i l = (l.i ≤ length l.s) × Put l.initial.buf l.at (values_text (take l.i l.s)) l.buf l.p × (l.p ≤ l.at + 22 * l.i)
-
-abbrev pub decreases-loop-i : goal.decreases-loop-i
-decreases-loop-i l = length l.s - l.i
+abbrev pub invariant-loop-n : goal.invariant-loop-n
+invariant-loop-n l = Puts l.initial.page (values_text (take l.n-index l.s)) l.page × (l.page.at ≤ l.initial.page.at + 22 * l.n-index)

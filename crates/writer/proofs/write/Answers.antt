@@ -1,10 +1,9 @@
--- What opening refuses is refused, and of what it opens the text is written.
+-- What opening refuses is refused.
+use Rattle.std.proofs.lemmas.Result.{err_from_is_err_and}
 use Rattle.text_form.proofs.AnyShown.{opening_refused}
-use Rattle.routine.proofs.Opening.{opening_opens}
 use Rattle.writer.proofs.write.Goals as goal
 
-pub write_open-requires : goal.write_open-requires
-write_open-requires c = opening_opens c.in-Routine.ensures
-
-pub returns-in-Refused : goal.returns-in-Refused
-returns-in-Refused c = opening_refused c.in-Refused.ensures
+pub returns-in_err-row : goal.returns-in_err-row
+returns-in_err-row c =
+    let p = err_from_is_err_and c.from_residual.result c.from_residual.ensures.1 in
+    rw (p.1, p.2) (opening_refused c.in_err-row.ensures.opening)

@@ -5,9 +5,8 @@ use Rattle.writer.proofs.Writing.{surely_fits}
 use Rattle.writer.proofs.write_open.Goals as goal
 
 pub put-requires : goal.put-requires
-put-requires c = (c.requires, omega (arith, surely_fits c.requires (λ k. omega (arith, c.type_inv.b k)), c.if-z-buf.true))
+put-requires c = omega (arith, surely_fits c.nodes.ensures.opened c.nodes.ensures.bytes)
 
 pub returns-then-buf-n : goal.returns-then-buf-n
 returns-then-buf-n c =
-    rw c.text_length-n.ensures
-    (long_refused c.requires.opens c.requires.holds c.args.buf.now (omega (arith, c.text_length-n.ensures, c.if-buf-n.true)))
+    rw c.text_length-n.ensures (long_refused c.nodes.ensures.opened.opens c.nodes.ensures.opened.holds c.args.buf.now (omega (arith, c.text_length-n.ensures)))

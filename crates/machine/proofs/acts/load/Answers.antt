@@ -1,5 +1,6 @@
 -- `machine::load` meets its contract: a literal is loaded as its value, and any other form as the node.
 use mathlib.Core.Path.{refl, sym, ap, ◌∙◌}
+use mathlib.Core.Logic.{inl, inr}
 use Prim.Native.Nat.{ℕ}
 use lib.Dec.{eqb}
 use mir.Syntax.{w32}
@@ -11,18 +12,19 @@ use Rattle.machine.proofs.acts.load.Goals as goal
 
 pub returns-in-Integer : goal.returns-in-Integer
 returns-in-Integer c =
-    let whole = to_z-of_z {w = w32} (record { sfits = c.integer_at.type_inv }) in
-    load_leaf c.requires.0 c.requires.1 (sym c.form_at.ensures ∙ c.in-Integer.is) {y = w.Int _} (ap int (whole ∙ c.integer_at.ensures)) tt refl
+    let whole = to_z-of_z {w = w32} (record { sfits = c.integer.type_inv }) in
+    load_leaf c.form.ensures.opened c.requires (sym c.form.ensures.is ∙ c.in-Integer.is) {y = w.Int _} (ap int (whole ∙ c.integer.ensures.is)) tt refl
 
 pub returns-in-Boolean : goal.returns-in-Boolean
 returns-in-Boolean c =
-    load_leaf c.requires.0 c.requires.1 (sym c.form_at.ensures ∙ c.in-Boolean.is) {y = w.Bool _}
-    (ap (λ (k : ℕ). bool (eqb k 1)) c.arg_at.ensures)
+    load_leaf c.form.ensures.opened c.requires (sym c.form.ensures.is ∙ c.in-Boolean.is) {y = w.Bool _}
+    (ap (λ (k : ℕ). bool (eqb k 1)) c.arg.ensures.is)
     tt
     refl
 
 pub returns-in-Skip : goal.returns-in-Skip
-returns-in-Skip c = load_leaf c.requires.0 c.requires.1 (sym c.form_at.ensures ∙ c.in-Skip.is) {y = w.Skip} refl tt refl
-
-pub returns-in-Unknown : goal.returns-in-Unknown
-returns-in-Unknown c = absurd (kids_of c.requires.0 c.requires.1 (sym c.form_at.ensures ∙ c.in-Unknown.is))
+returns-in-Skip c =
+    elim c.in-Skip.is [
+      | inl is ↦ load_leaf c.form.ensures.opened c.requires (sym c.form.ensures.is ∙ is) {y = w.Skip} refl tt refl
+      | inr is ↦ absurd (kids_of c.form.ensures.opened c.requires (sym c.form.ensures.is ∙ is))
+    ]

@@ -3,8 +3,8 @@ use Rattle.machine.proofs.Turns.{left}
 use Rattle.machine.proofs.Loops.{Kept}
 use Rattle.machine.proofs.run.go_on.Given as goal
 
-abbrev pub invariant-loop-x : goal.invariant-loop-x
-invariant-loop-x l = Kept l.b l.limit l.fn.s l.fn.stack l.fn.from l.s l.p l.m
+abbrev pub invariant-loop-machine : goal.invariant-loop-machine
+invariant-loop-machine l = Kept l.row l.limit l.fn.s l.fn.pending l.fn.machine l.s l.pending l.machine
 
-abbrev pub decreases-loop-x : goal.decreases-loop-x
-decreases-loop-x l = left l.b l.limit l.p l.m
+abbrev pub decreases-loop-machine : goal.decreases-loop-machine
+decreases-loop-machine l = left l.row l.limit l.pending l.machine

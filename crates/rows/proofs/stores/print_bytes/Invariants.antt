@@ -1,9 +1,6 @@
--- 256 bytes are left for each piece but the last, which has the rest. The measure is what is left of the bytes.
-use Rattle.std.proofs.Common.{length, ◌-◌, ◌≤◌}
+-- Each piece that is still to come has at most 256 bytes.
+use Rattle.std.proofs.Common.{◌≡◌}
 use Rattle.rows.proofs.stores.print_bytes.Given as goal
 
-abbrev pub invariant-loop-at : goal.invariant-loop-at
-invariant-loop-at l = l.at ≤ length l.bytes
-
-abbrev pub decreases-loop-at : goal.decreases-loop-at
-decreases-loop-at l = length l.bytes - l.at
+abbrev pub invariant-loop-piece : goal.invariant-loop-piece
+invariant-loop-piece g l = l.piece-iterator.size ≡ 256

@@ -1,2 +1,0 @@
--- The laws of `store`.
-pub mod Within  -- the number of a word is within its limit

@@ -1,1 +1,0 @@
-pub mod Widened  -- sums of two numbers of 32 bits, made in 64
