@@ -16,6 +16,10 @@ work=target/c program=target/c/rows
 mkdir -p "$work"
 rustc --edition 2021 -O -o "$work/reference" tests/reference/main.rs
 sh tools/build.sh exports_c exported_text_c exported_reading_c >&2
+# docs/C.md: they need nothing beside these two of C's functions
+asked=$(${NM:-nm} -u target/staticlib/libexports.a target/staticlib/libexported_text.a target/staticlib/libexported_reading.a |
+    awk '$1 == "U" && $2 != "memcpy" && $2 != "memset" { print $2 }')
+[ -z "$asked" ] || { echo "the archives need $asked" >&2; exit 1; }
 ${CC:-cc} -std=c11 -Wall -Wextra -Werror -O2 -I crates/exports -o "$program" tests/c/rows.c target/staticlib/libexports.a target/staticlib/libexported_text.a \
     target/staticlib/libexported_reading.a
 rows=0 texts=0 differ=0

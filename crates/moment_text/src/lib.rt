@@ -99,6 +99,16 @@ fn put_closes(row: &Routine<'_>, pending: &Pending, page: &mut Page<'_>)
     }
 }
 
+// The text of a moment: what opens its places, the work, and what closes them. It is asked for by no table of lengths.
+pub fn put_moment(row: &Routine<'_>, pending: &Pending, work: Work, page: &mut Page<'_>)
+    requires { Stands row.now pending.now × Seen row.now work × Fits page.old (moment_text row.now pending.now work) }
+    ensures { Puts page.old (moment_text row.now pending.now work) page.new }
+{
+    put_opens(pending, page);
+    put_work(row, work, page);
+    put_closes(row, pending, page);
+}
+
 // What a moment is measured by: the routine, and a table of the lengths of its nodes' texts.
 #[derive(Drop)]
 struct Lengths<'a> {
@@ -202,8 +212,6 @@ impl<'a> Moment<'a> {
         requires { Fits page.old self.now }
         ensures { Puts page.old self.now page.new }
     {
-        put_opens(self.pending, page);
-        put_work(self.lengths.row, self.work, page);
-        put_closes(self.lengths.row, self.pending, page);
+        put_moment(self.lengths.row, self.pending, self.work, page);
     }
 }

@@ -92,6 +92,16 @@ fn head(m: usize, n: usize) -> [u8; 6]
     [a, b, 1, m as u8, c, d]
 }
 
+// The nodes, behind the head. Byte by byte, which is C's `memcpy` in the archive: `copy_from_slice` would need its `memmove` beside it.
+fn put_nodes(nodes: &[u8], room: &mut [u8])
+    requires { length room.old ≡ length nodes.now }
+    ensures { room.new ≡ nodes.now }
+{
+    for i in 0..nodes.len() {
+        room[i] = nodes[i];
+    }
+}
+
 // Reads with the lent slice for the nodes, which is enough for any text as long as t of a tree that a routine can hold.
 fn read_with(t: &[u8], m: usize, nodes: &mut [u8], room: &mut [u8]) -> Result<usize, Unread>
     requires { (m ≤ 64) × (length nodes.old ≤ 32768) × Enough t.now (length nodes.old / 8) }
@@ -110,7 +120,7 @@ fn read_with(t: &[u8], m: usize, nodes: &mut [u8], room: &mut [u8]) -> Result<us
         return Err(Unread::Room(needed as u64));
     }
     room[..6].copy_from_slice(&head(m, n));
-    room[6..needed].copy_from_slice(&nodes[..8 * n]);
+    put_nodes(&nodes[..8 * n], &mut room[6..needed]);
     Ok(needed)
 }
 

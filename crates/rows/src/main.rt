@@ -41,7 +41,7 @@ fn answer<W: Write>(
         b's' => stores::answer(out, row, m, &mut buf[..head.lent()]),
         b'n' => nests::answer(out, row, head.fuel, m, buf),
         b'w' => writes::answer(out, row, &mut buf[..head.lent()]),
-        letter => writeln!(out, "unknown question {letter}"),
+        letter => line::print_fault(out, "unknown question", letter),
     }
 }
 
@@ -57,8 +57,8 @@ fn one_record<R: Read, W: Write>(
     let bytes = usize::from(head.bytes);
     let entries = usize::from(head.entries);
     if record::MOST_ENTRIES < head.entries {
-        record::pass_over(from, (4 * entries + bytes) as u64)?;
-        writeln!(out, "too many entries {entries}")?;
+        record::pass_over(from, room, 4 * entries + bytes)?;
+        line::print_fault(out, "too many entries", entries)?;
         return Ok(());
     }
     let values = bytes + 4;

@@ -1,7 +1,7 @@
 // The line of a long text, told by its parts A, B, C and D with a byte 0 between them: A k times, B, C k times and D. It is stored as by `s`.
-ghost use Rattle.std.specs.Prelude.{◌≡◌, ◌+◌, ◌≤◌, length};
+ghost use Rattle.std.specs.Prelude.{◌≡◌, ◌+◌, ◌*◌, ◌≤◌, length};
 
-use crate::stores;
+use crate::{line, stores};
 use std::io;
 use std::io::Write;
 
@@ -43,6 +43,15 @@ fn put_times(part: &[u8], k: u32, text: &mut [u8], at: usize) -> usize
     end
 }
 
+// The length of a half of the text: A k times and B, or C k times and D.
+fn half_length(part: &[u8], k: u32, rest: &[u8]) -> u64
+    requires { length part.now + length rest.now ≤ 65535 }
+    ensures is { result ≡ length part.now * k + length rest.now }
+    ensures bound { result ≤ 281470681743360 }
+{
+    part.len() as u64 * u64::from(k) + rest.len() as u64
+}
+
 // Room for the longest text. A function of its own, so that the proof of `answer` sees its length alone and not so many zeros.
 fn blank_text() -> [u8; 1400000]
     ensures { length result ≡ 1400000 }
@@ -62,10 +71,9 @@ pub fn answer<W: Write>(
     let (a, rest) = cut(parts);
     let (b, rest) = cut(rest);
     let (c, d) = cut(rest);
-    let times = u64::from(k);
-    let all = a.len() as u64 * times + b.len() as u64 + c.len() as u64 * times + d.len() as u64;
+    let all = half_length(a, k, b) + half_length(c, k, d);
     if MOST < all {
-        return writeln!(out, "too long {all}");
+        return line::print_fault(out, "too long", all);
     }
     let mut text = blank_text();
     let end = put_times(a, k, &mut text, 0);

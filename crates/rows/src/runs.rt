@@ -7,10 +7,14 @@ use std::io::Write;
 
 fn print_ending<W: Write>(out: &mut W, ending: Ending) -> io::Result<()> {
     match ending {
-        Ending::Int(n) => write!(out, "value {n}"),
-        Ending::Bool(t) => write!(out, "value {t}"),
+        Ending::Int(n) => {
+            write!(out, "value")?;
+            line::print_signed(out, n)
+        }
+        Ending::Bool(true) => write!(out, "value true"),
+        Ending::Bool(false) => write!(out, "value false"),
         Ending::Skip => write!(out, "value skip"),
-        Ending::Overflow(i) => write!(out, "overflow at {i}"),
+        Ending::Overflow(i) => line::print_number(out, "overflow at", i),
         Ending::Fuel => write!(out, "fuel"),
     }
 }
@@ -22,9 +26,11 @@ fn print_end<W: Write>(out: &mut W, end: End, s: &[i32]) -> io::Result<()> {
         loops,
     } = end;
     print_ending(out, ending)?;
-    write!(out, " steps {steps} loops {loops} |")?;
+    line::print_number(out, " steps", steps)?;
+    line::print_number(out, " loops", loops)?;
+    write!(out, " |")?;
     for n in s {
-        write!(out, " {n}")?;
+        line::print_signed(out, *n)?;
     }
     Ok(())
 }

@@ -8,7 +8,7 @@
 
 #![tactic(auto)]
 
-ghost use Rattle.std.specs.Prelude.{◌≡◌, ◌≤◌, ◌<◌, length};
+ghost use Rattle.std.specs.Prelude.{◌≡◌, ◌≤◌, ◌<◌, length, IfSome};
 
 use node_text::Page;
 use std::env::Env;
@@ -25,9 +25,11 @@ struct Asked<'a> {
     tail: &'a [u8],
 }
 
-// Word i as a number from 0 on, and below as an integer: two questions to `arguments`. No number has more bytes than there is room for.
-fn natural_at<E: Env>(rt: &E, i: usize) -> Option<u32> {
-    arguments::natural_in(words::at(rt, i, &mut [0; 16])?, u32::MAX)
+// Word i as a number from 0 to `top`, and below as an integer: two questions to `arguments`. No number has more bytes than there is room for.
+fn natural_at<E: Env>(rt: &E, i: usize, top: u32) -> Option<u32>
+    ensures { IfSome result (λ n. n ≤ top) }
+{
+    arguments::natural_in(words::at(rt, i, &mut [0; 16])?, top)
 }
 
 fn integer_at<E: Env>(rt: &E, i: usize) -> Option<i32> {
@@ -37,9 +39,9 @@ fn integer_at<E: Env>(rt: &E, i: usize) -> Option<i32> {
 // The fuel and m values, as far as a row can have them: what has more locations is refused by 4, and nothing stands behind it.
 fn put_tail<E: Env>(rt: &E, m: usize, tail: &mut Page<'_>) -> Option<()>
     requires { (m ≤ 4294967295) × (tail.old.at ≡ 0) × (length tail.old.room.now ≡ 1024) }
-    ensures { tail.new.at ≤ length tail.new.room.now }
+    ensures { (tail.new.at ≤ length tail.new.room.now) × (length tail.new.room.now ≡ 1024) }
 {
-    store_input::put_four(natural_at(rt, 2)?, tail);
+    store_input::put_four(natural_at(rt, 2, u32::MAX)?, tail);
     for i in 0..m {
         let value = integer_at(rt, 3 + i)?;
         if i < 255 {
@@ -52,8 +54,9 @@ fn put_tail<E: Env>(rt: &E, m: usize, tail: &mut Page<'_>) -> Option<()>
 // Nothing where a word is wrong.
 fn ask<'a, E: Env>(rt: &E, room: &'a mut [u8]) -> Option<Asked<'a>>
     requires { length room.old ≡ 1024 }
+    ensures { IfSome result (λ asked. length asked.tail.now ≤ 1024) }
 {
-    let m = natural_at(rt, 1)? as usize;
+    let m = natural_at(rt, 1, u32::MAX)? as usize;
     let words = words::count(rt);
     let mut tail = Page { room, at: 0 };
     if words != 2 {
@@ -101,11 +104,8 @@ fn text_room() -> [u8; 1048578]
     [0; 1048578]
 }
 
-fn store(rt: HostRuntime) -> io::Result<()> {
-    let mut tail = [0u8; 1024];
-    let Some(asked) = ask(&rt, &mut tail) else {
-        return eprintln!(rt; "usage: store M [FUEL V0 V1 ..] < text > row");
-    };
+// Reads the text, and answers it. A function of its own, in which the room comes first: where something else does, the compiler clears it twice.
+fn store_text(rt: HostRuntime, asked: &Asked<'_>) -> io::Result<()> {
     let mut room = text_room();
     let Ok(n) = input::fill(&mut rt.stdin(), &mut room) else {
         return eprintln!(rt; "store: the input could not be read");
@@ -114,7 +114,15 @@ fn store(rt: HostRuntime) -> io::Result<()> {
     if LONGEST < text.len() {
         return eprintln!(rt; "store: the text has over {LONGEST} bytes");
     }
-    print(&mut rt.stdout(), &mut rt.stderr(), text, &asked)
+    print(&mut rt.stdout(), &mut rt.stderr(), text, asked)
+}
+
+fn store(rt: HostRuntime) -> io::Result<()> {
+    let mut tail = [0u8; 1024];
+    let Some(asked) = ask(&rt, &mut tail) else {
+        return eprintln!(rt; "usage: store M [FUEL V0 V1 ..] < text > row");
+    };
+    store_text(rt, &asked)
 }
 
 fn main(rt: HostRuntime) {

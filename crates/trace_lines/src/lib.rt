@@ -17,7 +17,7 @@ ghost use Rattle.trace_lines.specs.Says.{Tells, Advanced};
 use machine::{Ending, Machine, Pending, Rule};
 use moment_text::Moment;
 use node_text::Page;
-use routine::Program;
+use routine::{Program, Routine};
 
 // Room for any line: a text of 8,192 bytes, 64 values, and what stands around them.
 const LINE: usize = 10000;
@@ -134,6 +134,24 @@ fn put_shown(moment: &Moment<'_>, page: &mut Page<'_>)
     }
 }
 
+// The line of a moment, of a routine well typed or not.
+pub fn put_line(
+    row: &Routine<'_>,
+    pending: &Pending,
+    m: Machine,
+    s: &[i32],
+    lengths: &[u32],
+    page: &mut Page<'_>,
+)
+    requires { Stands row.now pending.now × Seen row.now m.work × Measured row.now lengths.now × (length s.now ≤ 64) × (page.old.at + 10000 ≤ length page.old.room.now) }
+    ensures { Puts page.old (moment_line m.steps (name_of m.rule) (meaning row.now pending.now m) s.now) page.new × (page.new.at ≤ page.old.at + 10000) }
+{
+    let moment = Moment::of(row, pending, m.work, lengths);
+    put_head(m.steps, m.rule, page);
+    put_shown(&moment, page);
+    put_tail(s, page);
+}
+
 // One step more, but not beyond the fuel.
 fn next_limit(steps: u64, fuel: u64) -> u64
     requires { (steps ≤ fuel) × (fuel < 4294967296) }
@@ -157,10 +175,7 @@ impl<'a> Teller<'a> {
         requires { Stands self.now.program.now pending.now × Seen self.now.program.now m.work × (length s.now ≤ 64) × (page.old.at + 10000 ≤ length page.old.room.now) }
         ensures { Puts page.old (moment_line m.steps (name_of m.rule) (meaning self.now.program.now pending.now m) s.now) page.new × (page.new.at ≤ page.old.at + 10000) }
     {
-        let moment = Moment::of(self.program.row(), pending, m.work, self.lengths);
-        put_head(m.steps, m.rule, page);
-        put_shown(&moment, page);
-        put_tail(s, page);
+        put_line(self.program.row(), pending, m, s, self.lengths, page);
     }
 
     // The next line: that of the moment after one step more, where the machine stands then, or the last.

@@ -23,4 +23,4 @@ returns-then-room-needed c =
 pub returns : goal.returns
 returns c =
     let w = whole c.in-Some.ensures.found c.requires.0 c.requires.1 c.if-end-t.false in
-    took w.storable w.shown w.count c.if-room-needed.false (c.copy_from_slice.ensures.after ∙ c.head.ensures) (c.copy_from_slice-2.ensures.after ∙ w.held)
+    took w.storable w.shown w.count c.if-room-needed.false (c.copy_from_slice.ensures.after ∙ c.head.ensures) (c.put_nodes.ensures ∙ w.held)

@@ -4,16 +4,13 @@ use Rattle.machine.specs.Moment.{meaning}
 use Rattle.node_text.proofs.PutLaws.{puts_more}
 use Rattle.trace_lines.specs.Lines.{name_of}
 use Rattle.trace_lines.proofs.LineParts.{moment_parts}
-use Rattle.trace_lines.proofs.Teller.put_line.Goals as goal
-
-pub of-moment-requires : goal.of-moment-requires
-of-moment-requires c = rw c.row.ensures.is (c.requires.0, c.requires.1, c.args.self.now.measured)
+use Rattle.trace_lines.proofs.put_line.Goals as goal
 
 pub returns : goal.returns
 returns c =
     let a = c.args in
-    let shown = rw (c.of-moment.ensures, c.row.ensures.is) at c.put_shown.ensures in (
-      rw (moment_parts a.m.steps (name_of a.m.rule) (meaning a.self.now.program.now a.pending.now a.m) a.s.now)
+    let shown = rw c.of-moment.ensures at c.put_shown.ensures in (
+      rw (moment_parts a.m.steps (name_of a.m.rule) (meaning a.row.now a.pending.now a.m) a.s.now)
           (puts_more (puts_more c.put_head.ensures.0 shown.0) c.put_tail.ensures.0),
       omega (arith, c.put_tail.ensures.1, shown.1, c.put_head.ensures.1),
     )
