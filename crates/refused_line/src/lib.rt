@@ -10,6 +10,7 @@ use node_text::Page;
 use routine::Refuses;
 
 // The number of the refusal, and what it also returns.
+#[tactic(auto, using(node_text::proofs::NumberLengths::few_digits))]
 pub fn put_refusal<R: Refuses>(r: R, page: &mut Page<'_>)
     requires { page.old.at + 64 ≤ length page.old.room.now }
     ensures { Puts page.old (refused_line (R.refusal r)) page.new × (page.new.at ≤ page.old.at + 64) }
