@@ -7,8 +7,8 @@
 #
 # For each thousand rows of a kind there are 1,050 texts, 50 of them at the limits, and 500 rows that are written.
 #
-# It needs rustc and a C compiler for x86-64 Linux, and builds the three archives with `tools/build.sh`: where nothing is proved yet, that proves all that they stand on,
-# which takes minutes. CC is the C compiler, and RUN is put before the program, for a machine that needs another compiler and an emulator.
+# It needs rustc, nm and a C compiler for x86-64 Linux, and builds the three archives with `tools/build.sh`: where nothing is proved yet, that proves all that they stand on,
+# which takes minutes. CC is the C compiler, NM is nm, and RUN is put before the program, for a machine that needs another compiler and an emulator.
 set -e
 cd "$(dirname "$0")/../.."
 each=${1:-5000} seed=${2:-1} chunk=1000
@@ -17,8 +17,8 @@ mkdir -p "$work"
 rustc --edition 2021 -O -o "$work/reference" tests/reference/main.rs
 sh tools/build.sh exports_c exported_text_c exported_reading_c >&2
 # docs/C.md: they need nothing beside these two of C's functions
-asked=$(${NM:-nm} -u target/staticlib/libexports.a target/staticlib/libexported_text.a target/staticlib/libexported_reading.a |
-    awk '$1 == "U" && $2 != "memcpy" && $2 != "memset" { print $2 }')
+${NM:-nm} -u target/staticlib/libexports.a target/staticlib/libexported_text.a target/staticlib/libexported_reading.a >"$work/asked"
+asked=$(awk '$1 == "U" && $2 != "memcpy" && $2 != "memset" { print $2 }' "$work/asked")
 [ -z "$asked" ] || { echo "the archives need $asked" >&2; exit 1; }
 ${CC:-cc} -std=c11 -Wall -Wextra -Werror -O2 -I crates/exports -o "$program" tests/c/rows.c target/staticlib/libexports.a target/staticlib/libexported_text.a \
     target/staticlib/libexported_reading.a

@@ -99,7 +99,7 @@ fn put_closes(row: &Routine<'_>, pending: &Pending, page: &mut Page<'_>)
     }
 }
 
-// The text of a moment: what opens its places, the work, and what closes them. It is asked for by no table of lengths.
+// The text of a moment: what opens its places, the work, and what closes them. It asks for no table of lengths.
 pub fn put_moment(row: &Routine<'_>, pending: &Pending, work: Work, page: &mut Page<'_>)
     requires { Stands row.now pending.now × Seen row.now work × Fits page.old (moment_text row.now pending.now work) }
     ensures { Puts page.old (moment_text row.now pending.now work) page.new }

@@ -92,7 +92,7 @@ fn head(m: usize, n: usize) -> [u8; 6]
     [a, b, 1, m as u8, c, d]
 }
 
-// The nodes, behind the head. Byte by byte, which is C's `memcpy` in the archive: `copy_from_slice` would need its `memmove` beside it.
+// The nodes, behind the head. Byte by byte, which is C's `memcpy` in the archive: `copy_from_slice` would need C's `memmove` too.
 fn put_nodes(nodes: &[u8], room: &mut [u8])
     requires { length room.old ≡ length nodes.now }
     ensures { room.new ≡ nodes.now }

@@ -1,2 +1,2 @@
 -- The laws of the program `rows`.
-pub mod Buffers  -- the text after k steps lies in its buffer
+pub mod Buffers  -- what a call put into a lent buffer lies in it

@@ -47,7 +47,7 @@ fn show(row: &Routine<'_>, s: &mut [i32], k: u32, buf: &mut [u8]) -> Result<Writ
 }
 
 // The text of a routine that has a type, with a store that has its locations. The lent store is only read: the run is made on its first m entries, copied.
-// Not put in place, so that the tables of the admission and that of the lengths are not on the stack at once.
+// Not inlined, so that the tables of the admission and that of the lengths are not on the stack at once.
 #[inline(never)]
 fn text_typed(program: &Program<'_>, s: &[i32], k: u32, buf: &mut [u8]) -> Result<Written, Refusal>
     requires { locations program.now ≤ length s.now }

@@ -1,5 +1,5 @@
 -- What opens the places, the work, and what closes them.
-use Rattle.std.proofs.Common.{ℕ, List, rules, ◌++◌}
+use Rattle.std.proofs.Common.{arith, rules, ℕ, List, ◌++◌}
 use Rattle.l1.specs.Text.{text}
 use Rattle.machine.specs.State.{expr_of, stack}
 use Rattle.machine.specs.declared.state.Pending.{Pending}
@@ -30,7 +30,7 @@ pub put_work-requires : goal.put_work-requires
 put_work-requires c =
     let a = c.args in let b = a.row.now in let p = a.pending.now in
     let room = rw (moment_pieces b p a.work) at c.requires.2 in
-    (c.requires.0.opened, search rules, page_rest (work b p a.work) c.put_opens.ensures (page_first a.page.now (opened b p a.work ++ work b p a.work) (closed b p a.work) room))
+    (c.requires.0.opened, search rules, omega (arith, page_rest (work b p a.work) c.put_opens.ensures (page_first a.page.now (opened b p a.work ++ work b p a.work) (closed b p a.work) room)))
 
 pub put_closes-requires : goal.put_closes-requires
 put_closes-requires c =
